@@ -1,0 +1,33 @@
+-- What a refusal says: its number and the place. Assumes nothing.
+use mathlib.Core.Path.{_≡_}
+use mathlib.Core.List.{List, [], _∷_}
+use Prim.Native.Nat.{ℕ}
+use Rattle.std.specs.declared.option.Option.{Option}
+use Rattle.std.specs.declared.option.Option.the-variants.{Some, None}
+use Rattle.std.specs.declared.result.Result.{Result}
+use Rattle.std.specs.declared.result.Result.the-variants.{Ok, Err}
+use Rattle.lattice.specs.declared.faults.LatticeFault.{LatticeFault}
+use Rattle.lattice.specs.declared.faults.LatticeFault.the-variants.{ShortRows, CountOutOfRange, OrderBroken, NoBound, TooWide}
+
+pub record Refusal : Type 0 where
+  pub number : ℕ
+  pub place : List ℕ
+
+abbrev pub refuse : ℕ → List ℕ → Refusal
+refuse n at = record { number = n; place = at }
+
+-- What a call answers by its verdict: `Ok` exactly where there is no cause to refuse, else a fault that says that cause.
+abbrev pub Answers : {X F : Type 0} → (F → Refusal) → Option Refusal → (X → Type 0) → Result X F → Type 0
+Answers says verdict holds (Ok x) = (verdict ≡ None) × holds x
+Answers says verdict holds (Err e) = verdict ≡ Some (says e)
+
+-- the kind of a place in a lattice, beside the kinds of records
+abbrev pub lattice-kind : ℕ
+lattice-kind = 7
+
+abbrev pub refusal : LatticeFault → Refusal
+refusal ShortRows = refuse 2 (lattice-kind ∷ [])
+refusal (CountOutOfRange count) = refuse 3 (lattice-kind ∷ count ∷ [])
+refusal (OrderBroken row) = refuse 9 (row ∷ [])
+refusal (NoBound a b) = refuse 10 (a ∷ b ∷ [])
+refusal (TooWide sum) = refuse 11 (sum ∷ [])
