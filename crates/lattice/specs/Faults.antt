@@ -13,19 +13,21 @@ pub record Refusal : Type 0 where
   pub number : ℕ
   pub place : List ℕ
 
-abbrev pub refuse : ℕ → List ℕ → Refusal
-refuse n at = record { number = n; place = at }
+-- a cause to refuse
+abbrev pub refuse : ℕ → List ℕ → Option Refusal
+refuse n at = Some (record { number = n; place = at })
 
 -- What a call answers by its verdict: `Ok` exactly where there is no cause to refuse, else a fault that says that cause.
-abbrev pub Answers : {X F : Type 0} → (F → Refusal) → Option Refusal → (X → Type 0) → Result X F → Type 0
+-- A fault that says none, as want of memory does, comes only where there is no cause either.
+abbrev pub Answers : {X F : Type 0} → (F → Option Refusal) → Option Refusal → (X → Type 0) → Result X F → Type 0
 Answers says verdict holds (Ok x) = (verdict ≡ None) × holds x
-Answers says verdict holds (Err e) = verdict ≡ Some (says e)
+Answers says verdict holds (Err e) = verdict ≡ says e
 
 -- the kind of a place in a lattice, beside the kinds of records
 abbrev pub lattice-kind : ℕ
 lattice-kind = 7
 
-abbrev pub refusal : LatticeFault → Refusal
+abbrev pub refusal : LatticeFault → Option Refusal
 refusal ShortRows = refuse 2 (lattice-kind ∷ [])
 refusal (CountOutOfRange count) = refuse 3 (lattice-kind ∷ count ∷ [])
 refusal (OrderBroken row) = refuse 9 (row ∷ [])

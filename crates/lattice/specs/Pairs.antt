@@ -34,7 +34,7 @@ abbrev pub narrow : Joins → Joins → Bool
 narrow l r = leb (l .width + r .width) 32
 
 abbrev pub pair-verdict : Joins → Joins → Option Refusal
-pair-verdict l r = cond (narrow l r) None (Some (refuse 11 ((l .width + r .width) ∷ [])))
+pair-verdict l r = cond (narrow l r) None (refuse 11 ((l .width + r .width) ∷ []))
 
 -- the lattice of one level, for two parts that are too wide together; `Pair::new` makes no such pair
 abbrev pub single : Model

@@ -5,7 +5,7 @@ use Prim.Native.Nat.{ℕ, _-_, _^_}
 use lib.Bits.{bitAnd, bitOr}
 use lib.Dec.{ltb, leb}
 use Rattle.std.specs.declared.option.Option.{Option}
-use Rattle.std.specs.declared.option.Option.the-variants.{Some, None}
+use Rattle.std.specs.declared.option.Option.the-variants.{None}
 use Rattle.lattice.specs.Faults.{Refusal, refuse, lattice-kind}
 use Rattle.lattice.specs.Bit.{within}
 use Rattle.lattice.specs.Model.{Joins, Model, strict}
@@ -38,4 +38,4 @@ owners-model n =
 
 -- 1 to 32 owners
 abbrev pub owners-verdict : ℕ → Option Refusal
-owners-verdict n = cond (leb 1 n && leb n 32) None (Some (refuse 3 (lattice-kind ∷ n ∷ [])))
+owners-verdict n = cond (leb 1 n && leb n 32) None (refuse 3 (lattice-kind ∷ n ∷ []))

@@ -4,7 +4,7 @@ use mathlib.Core.List.{List, [], _∷_}
 use Prim.Native.Nat.{ℕ}
 use lib.Chars.{codes}
 use Rattle.std.specs.declared.option.Option.{Option}
-use Rattle.std.specs.declared.option.Option.the-variants.{Some, None}
+use Rattle.std.specs.declared.option.Option.the-variants.{None}
 use Rattle.std.specs.shelf.Lists.{All}
 use Rattle.lattice.specs.Faults.{Refusal, refuse}
 use Rattle.lattice.specs.Model.{Model}
@@ -36,7 +36,7 @@ cases =
     record { name = codes "rows 15, 10, 12, 8: the join of 1 and 2"; given = join-of (table 4 (15 ∷ 10 ∷ 12 ∷ 8 ∷ [])) 1 2; due = level 3 }
     ∷ record { name = codes "two levels paired with two: the join of 2 and 1"; given = join-of (pair-model two two) 2 1; due = level 3 }
     ∷ record { name = codes "two levels reversed: the join of 0 and 1"; given = join-of (reversed two) 0 1; due = level 0 }
-    ∷ record { name = codes "rows 1, 2: no join"; given = verdict (table-verdict 2 (1 ∷ 2 ∷ [])); due = verdict (Some (refuse 10 (0 ∷ 1 ∷ []))) }
+    ∷ record { name = codes "rows 1, 2: no join"; given = verdict (table-verdict 2 (1 ∷ 2 ∷ [])); due = verdict (refuse 10 (0 ∷ 1 ∷ [])) }
     ∷ []
 
 abbrev pub Holds : Case → Type 0

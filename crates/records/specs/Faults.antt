@@ -1,6 +1,7 @@
 -- What the refusal of a text says: its number and the place. Assumes nothing.
 use mathlib.Core.List.{List, [], _∷_}
 use Prim.Native.Nat.{ℕ}
+use Rattle.std.specs.declared.option.Option.{Option}
 use Rattle.lattice.specs.Faults.{Refusal, refuse}
 use Rattle.records.specs.declared.LineFault.{LineFault}
 use Rattle.records.specs.declared.LineFault.the-variants.{NotDue, TooLong}
@@ -9,6 +10,6 @@ use Rattle.records.specs.declared.LineFault.the-variants.{NotDue, TooLong}
 abbrev pub text-kind : ℕ
 text-kind = 8
 
-abbrev pub refusal : LineFault → Refusal
+abbrev pub refusal : LineFault → Option Refusal
 refusal (NotDue line byte) = refuse 1 (line ∷ byte ∷ [])
 refusal TooLong = refuse 2 (text-kind ∷ [])

@@ -82,8 +82,8 @@ order-verdict n rows =
 -- n levels in as many of the lent rows
 abbrev pub table-verdict : ℕ → List ℕ → Option Refusal
 table-verdict n lent =
-    cond (ltb (length lent) n) (Some (refuse 2 (lattice-kind ∷ [])))
-    (cond (leb 1 n && leb n 16) (order-verdict n (rows-of (take n lent))) (Some (refuse 3 (lattice-kind ∷ n ∷ []))))
+    cond (ltb (length lent) n) (refuse 2 (lattice-kind ∷ []))
+    (cond (leb 1 n && leb n 16) (order-verdict n (rows-of (take n lent))) (refuse 3 (lattice-kind ∷ n ∷ [])))
 
 abbrev pub table-joins : ℕ → (ℕ → ℕ) → Joins
 table-joins n rows =

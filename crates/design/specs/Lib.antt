@@ -1,0 +1,5 @@
+pub mod Rank
+pub mod Shape
+pub mod Rules
+pub mod Faults
+pub mod View
