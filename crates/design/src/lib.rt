@@ -1,9 +1,13 @@
 // Designs: their acceptance, and what an accepted design keeps.
+mod depth;
+mod ends;
 mod faults;
 
 mod keep;
 mod levels;
 mod links;
+mod places;
+mod ranks;
 mod reads;
 mod sizes;
 mod tables;

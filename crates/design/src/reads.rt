@@ -14,7 +14,7 @@ use records::Register;
 use records::State;
 
 // Record n of a table, or `missing` past its end.
-fn record_at<T: Copy>(table: &[T], n: u32, missing: T) -> T
+pub(crate) fn record_at<T: Copy>(table: &[T], n: u32, missing: T) -> T
     ensures { λ r. ⌜ r ≡ getD (now (table .entry)) n missing ⌝ }
 {
     match table.get(n as usize) {

@@ -61,3 +61,8 @@ first-here p n i h l e = sym (first-is p n i (omega arith) h (λ _. e))
 
 pub first-none : (p : ℕ → Bool) (n i : ℕ) → None-below p i → n ≤ i → n ≡ first p n
 first-none p n i h l = sym (first-is p n n (omega arith) (λ k q. h k (omega arith)) (λ q. absurd (omega arith)))
+
+-- two tests that agree below n have the same first
+pub first-same : (p q : ℕ → Bool) (n : ℕ) → ((j : ℕ) → j < n → p j ≡ q j) → first p n ≡ first q n
+first-same p q n h =
+    sym (first-is q n (first p n) (first-le p n) (λ j l. sym (h j (omega (arith, first-le p n))) ∙ first-before p n j l) (λ l. sym (h (first p n) l) ∙ first-passes p n l))
