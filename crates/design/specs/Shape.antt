@@ -177,5 +177,6 @@ ends-node d ends k = chain-ends ends (command-at d k)
 abbrev pub chain-rank : Design → ℕ → ℕ
 chain-rank d k = cond (ltb k (d .head .commands)) (d .head .commands - k) (suc (d .head .commands))
 
+-- there is a command k, and the chain from it on ends
 abbrev pub ends-of : Design → ℕ → Bool
-ends-of d = ranked (chain-rank d) false (ends-node d)
+ends-of d k = cond (ltb k (d .head .commands)) (ranked (chain-rank d) false (ends-node d) k) false
