@@ -1,0 +1,204 @@
+// Rule 6: where commands stand.
+ghost use mathlib.Core.Path.{_≡_};
+ghost use mathlib.Core.Bool.{not};
+ghost use Prim.Native.Nat.{_≤_};
+ghost use denote.Ref.{now};
+ghost use lib.ListN.{getD};
+ghost use Rattle.rules.specs.Shape.{is-first, links-to, links, is-if, alike, is-child, owner-node};
+ghost use Rattle.rules.specs.Faults.{breach-if};
+ghost use Rattle.rules.specs.Rules.{enforced-register, enforced-state, goto-placed, action-placed, has-check, command-placed, placed};
+ghost use Rattle.rules.specs.View.{view};
+use crate::faults::Breach;
+use crate::faults::Kind;
+use crate::faults::Rule;
+use crate::keep::keep;
+use crate::links::is_number;
+use crate::ranks::MOST_RECORDS;
+use crate::ranks::Node;
+use crate::ranks::work_out;
+use crate::reads::record_at;
+use crate::sizes::is_enforced;
+use crate::tables::Tables;
+use records::Action;
+use records::Command;
+use search::Test;
+use search::first_below;
+
+// A command names command k.
+fn links_to(command: Command, k: u32) -> bool
+    ensures { λ r. ⌜ r ≡ links command k ⌝ }
+{
+    let branch = is_number(command.x, k) | is_number(command.i, k);
+    is_number(command.next, k) | is_number(command.alt, k) | (is_if(command.action) & branch)
+}
+
+pub(crate) fn is_if(action: Action) -> bool
+    ensures { λ r. ⌜ r ≡ is-if action ⌝ }
+{
+    match action {
+        Action::If => true,
+        _ => false,
+    }
+}
+
+// The states that begin with command k.
+#[derive(Drop)]
+struct IsFirst<'a> {
+    tables: Tables<'a>,
+    k: u32,
+}
+
+impl Test for IsFirst<'_> as IsFirstTest {
+    ghost test = { λ x. is-first (view (x .tables)) (x .k) };
+
+    fn passes(&self, s: u32) -> bool {
+        self.tables.state(s).first == self.k
+    }
+}
+
+// The commands that name command k.
+#[derive(Drop)]
+struct LinksTo<'a> {
+    tables: Tables<'a>,
+    k: u32,
+}
+
+impl Test for LinksTo<'_> as LinksToTest {
+    ghost test = { λ x. links-to (view (x .tables)) (x .k) };
+
+    fn passes(&self, j: u32) -> bool {
+        links_to(self.tables.command(j), self.k)
+    }
+}
+
+// The state of each command.
+#[derive(Drop)]
+pub(crate) struct Owner<'a> {
+    pub(crate) tables: Tables<'a>,
+}
+
+impl Node for Owner<'_> as OwnerNode {
+    ghost node = { λ x. owner-node (view (x .tables)) };
+
+    ghost base = { λ _. 4294967295 };
+
+    fn value(&self, done: &[u32; MOST_RECORDS], k: u32) -> u32 {
+        let tables = self.tables;
+        let state = first_below(&IsFirst { tables, k }, tables.head.states);
+        if state < tables.head.states {
+            return state;
+        }
+        let named_by = first_below(&LinksTo { tables, k }, k);
+        record_at(done, named_by, 0)
+    }
+}
+
+// Both absent, or both the same number.
+fn are_alike(a: Option<u32>, b: Option<u32>) -> bool
+    ensures { λ r. ⌜ r ≡ alike a b ⌝ }
+{
+    match a {
+        Some(n) => is_number(b, n),
+        None => b.is_none(),
+    }
+}
+
+// The children of a state.
+#[derive(Drop)]
+pub(crate) struct ChildOf<'a> {
+    pub(crate) tables: Tables<'a>,
+    pub(crate) s: u32,
+}
+
+impl Test for ChildOf<'_> as ChildOfTest {
+    ghost test = { λ x. is-child (view (x .tables)) (x .s) };
+
+    fn passes(&self, t: u32) -> bool {
+        is_number(self.tables.state(t).parent, self.s)
+    }
+}
+
+impl Tables<'_> {
+    fn is_register_enforced(&self, x: Option<u32>) -> bool
+        ensures { λ r. ⌜ r ≡ enforced-register (view (now (self .entry))) x ⌝ }
+    {
+        is_enforced(self.register(x.unwrap_or(0)).mode)
+    }
+
+    fn is_state_enforced(&self, x: Option<u32>) -> bool
+        ensures { λ r. ⌜ r ≡ enforced-state (view (now (self .entry))) x ⌝ }
+    {
+        is_enforced(self.state(x.unwrap_or(0)).mode)
+    }
+
+    // A goto in state s: not in the root, and to a state with the same parent.
+    fn is_goto_placed(&self, s: u32, x: Option<u32>) -> bool
+        ensures { λ r. ⌜ r ≡ goto-placed (view (now (self .entry))) s x ⌝ }
+    {
+        (s != 0) & are_alike(self.state(x.unwrap_or(0)).parent, self.state(s).parent)
+    }
+
+    // A command in state s.
+    fn is_action_placed(&self, s: u32, command: Command) -> bool
+        ensures { λ r. ⌜ r ≡ action-placed (view (now (self .entry))) s command (command .action) ⌝ }
+    {
+        match command.action {
+            Action::Set => true,
+            Action::Tag => self.is_register_enforced(command.x),
+            Action::If => true,
+            Action::Goto => self.is_goto_placed(s, command.x),
+            Action::Fall => {
+                let tables = *self;
+                first_below(&ChildOf { tables, s }, self.head.states) < self.head.states
+            }
+        }
+    }
+
+    // The check of the command may fail, so that it may have an alt.
+    fn has_check(&self, command: Command) -> bool
+        ensures { λ r. ⌜ r ≡ has-check (view (now (self .entry))) command (command .action) ⌝ }
+    {
+        match command.action {
+            Action::Set => self.is_register_enforced(command.x),
+            Action::Tag => true,
+            Action::If => false,
+            Action::Goto => self.is_state_enforced(command.x),
+            Action::Fall => true,
+        }
+    }
+}
+
+#[derive(Drop)]
+struct Misplaced<'a, 'b> {
+    tables: Tables<'a>,
+    owners: &'b [u32; MOST_RECORDS],
+}
+
+impl Test for Misplaced<'_, '_> as MisplacedTest {
+    ghost test = { λ x n. not (command-placed (view (x .tables)) (λ k. getD (now (x .owners)) k 0) n) };
+
+    fn passes(&self, n: u32) -> bool {
+        let command = self.tables.command(n);
+        let owners = self.owners;
+        let owner = record_at(owners, n, 0);
+        !(self.tables.is_action_placed(owner, command)
+            & (command.alt.is_none() | self.tables.has_check(command)))
+    }
+}
+
+pub(crate) fn check_places(tables: Tables<'_>) -> Option<Breach>
+    requires { ⌜ tables .head .commands ≤ 256 ⌝ }
+    ensures { λ r. ⌜ breach-if r ≡ placed (view (tables .entry)) ⌝ }
+{
+    let owners = work_out(&Owner { tables }, tables.head.commands);
+    keep(
+        None,
+        Rule::Places,
+        Kind::Command,
+        tables.head.commands,
+        &Misplaced {
+            tables,
+            owners: &owners,
+        },
+    )
+}
