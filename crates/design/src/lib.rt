@@ -1,0 +1,6 @@
+// Acceptance, and the accepted design.
+mod acceptance;
+mod owned;
+
+pub use acceptance::Accepted;
+pub use acceptance::accept;
