@@ -17,6 +17,10 @@ pub record Refusal : Type 0 where
 abbrev pub refuse : ℕ → List ℕ → Option Refusal
 refuse n at = Some (record { number = n; place = at })
 
+abbrev pub numbered : Option Refusal → Option ℕ
+numbered None = None
+numbered (Some r) = Some (r .number)
+
 -- What a call answers by its verdict: `Ok` exactly where there is no cause to refuse, else a fault that says that cause.
 -- A fault that says none, as want of memory does, comes only where there is no cause either.
 abbrev pub Answers : {X F : Type 0} → (F → Option Refusal) → Option Refusal → (X → Type 0) → Result X F → Type 0

@@ -5,12 +5,14 @@ ghost use Rattle.lattice.specs.Model.{Model, Lawful};
 
 mod faults;
 mod fold;
+mod numbers;
 mod owners;
 mod pair;
 mod reversed;
 
 pub use faults::LatticeFault;
 pub use faults::LatticeFaultDebug;
+pub use faults::LatticeFaultDisplay;
 pub use faults::LatticeFaultPartialEq;
 pub use fold::join_all;
 pub use owners::Owners;

@@ -3,8 +3,8 @@ use mathlib.Core.List.{List, [], _∷_}
 use Prim.Native.Nat.{ℕ}
 use Rattle.std.specs.declared.option.Option.{Option}
 use Rattle.lattice.specs.Faults.{Refusal, refuse}
-use Rattle.records.specs.declared.LineFault.{LineFault}
-use Rattle.records.specs.declared.LineFault.the-variants.{NotDue, TooLong}
+use Rattle.records.specs.declared.faults.LineFault.{LineFault}
+use Rattle.records.specs.declared.faults.LineFault.the-variants.{NotDue, TooLong}
 
 -- the kind of a place in a text, beside the kinds of records
 abbrev pub text-kind : ℕ

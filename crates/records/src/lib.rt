@@ -1,5 +1,12 @@
 // The records of a design as a text gives them, good or bad, and the fault of a line.
 // Records of each kind are numbered from 0; `None` stands where the text has `-`.
+mod faults;
+mod numbers;
+
+pub use faults::LineFault;
+pub use faults::LineFaultDebug;
+pub use faults::LineFaultDisplay;
+pub use faults::LineFaultPartialEq;
 
 // How many records of each kind there are, and how many cycles are to run.
 #[derive(Clone, Copy, PartialEq, Eq, Debug)]
@@ -98,13 +105,4 @@ pub struct Cell {
 pub struct Input {
     pub value: u32,
     pub level: u32,
-}
-
-// Why a text was refused.
-#[derive(Clone, Copy, PartialEq, Eq, Debug)]
-pub enum LineFault {
-    // The line, from 1, and the byte in it, from 1, at which no line that is due goes on.
-    NotDue { line: u32, byte: u32 },
-    // The text has more than 60,000 bytes.
-    TooLong,
 }

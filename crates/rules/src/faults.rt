@@ -1,9 +1,12 @@
 ghost use mathlib.Core.Path.{_≡_};
 ghost use Rattle.rules.specs.declared.faults.DesignFault.the-variants.{Line as LineOf, Lattice as LatticeOf, Broken, Memory};
 use lattice::LatticeFault;
+use lattice::LatticeFaultDisplay;
 use records::LineFault;
+use records::LineFaultDisplay;
 use std::alloc::AllocError;
 use std::alloc::Refused;
+use std::fmt;
 
 // What a place is in: a record of this kind, a cell of the memory, or an input.
 #[derive(Clone, Copy)]
@@ -85,5 +88,49 @@ pub impl<T: Drop> From<Refused<T>> for DesignFault as DesignFromRefused {
 
     fn from(_e: Refused<T>) -> DesignFault {
         DesignFault::Memory
+    }
+}
+
+pub impl fmt::Display for Kind as KindDisplay {
+    fn fmt<W: fmt::Write>(&self, f: &mut fmt::Formatter<W>) -> fmt::Result {
+        match self {
+            Kind::Port => write!(f, "port"),
+            Kind::Register => write!(f, "register"),
+            Kind::State => write!(f, "state"),
+            Kind::Expression => write!(f, "expression"),
+            Kind::Command => write!(f, "command"),
+            Kind::Cell => write!(f, "cell"),
+            Kind::Input => write!(f, "input"),
+        }
+    }
+}
+
+pub impl fmt::Display for Rule as RuleDisplay {
+    fn fmt<W: fmt::Write>(&self, f: &mut fmt::Formatter<W>) -> fmt::Result {
+        match self {
+            Rule::Sizes => write!(f, "sizes"),
+            Rule::Links => write!(f, "links"),
+            Rule::Levels => write!(f, "levels"),
+            Rule::Places => write!(f, "places"),
+            Rule::Ends => write!(f, "ends"),
+            Rule::Depth => write!(f, "depth"),
+        }
+    }
+}
+
+pub impl fmt::Display for DesignFault as DesignFaultDisplay {
+    fn fmt<W: fmt::Write>(&self, f: &mut fmt::Formatter<W>) -> fmt::Result {
+        match self {
+            DesignFault::Line(fault) => write!(f, "{fault}"),
+            DesignFault::Lattice(fault) => write!(f, "{fault}"),
+            DesignFault::ShortTable { kind } => write!(
+                f,
+                "{kind}: fewer records than the head says"
+            ),
+            DesignFault::Broken(Breach { rule, kind, record }) => {
+                write!(f, "{kind} {record} breaks the rule of {rule}")
+            }
+            DesignFault::Memory => write!(f, "out of memory"),
+        }
     }
 }
