@@ -1,0 +1,10 @@
+pub mod Shared
+pub mod Numbers
+pub mod Sequences
+pub mod NumberPieces
+pub mod Choosing
+pub mod Grammar
+pub mod Keys
+pub mod Answering
+pub mod Unambiguous
+pub mod Runs
