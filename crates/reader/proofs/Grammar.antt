@@ -176,15 +176,15 @@ module _ {P V : Type 0} (k : Kind P V) (next : V → Section) (s : List ℕ) whe
 pub line-free : {P V : Type 0} (k : Kind P V) (next : V → Section) (p q : Step) → Of (k .line) (k .ok) next p → Of (k .line) (k .ok) next q → (p ≡ q) ⊎ Apart (values (p .line)) (values (q .line))
 line-free {P} {V} k next p q g h =
     let at : (x : Step) (v : V) → x ≡ record { line = k .line v; next = next v } → values (x .line) ≡ k .piece .text (k .from v) =
-      λ x v e. ap (λ (y : Step). values (y .line)) e ∙ k .same-from v in
+    λ x v e. ap (λ (y : Step). values (y .line)) e ∙ k .same-from v in
     ⊎-elim
     (λ same.
-      let e : g .0 ≡ h .0 = sym (k .back (g .0)) ∙ ap (k .to) same ∙ k .back (h .0) in
-      inl (g .2 ∙ ap {B = Step} (λ (v : V). record { line = k .line v; next = next v }) e ∙ sym (h .2)))
+    let e : g .0 ≡ h .0 = sym (k .back (g .0)) ∙ ap (k .to) same ∙ k .back (h .0) in
+    inl (g .2 ∙ ap {B = Step} (λ (v : V). record { line = k .line v; next = next v }) e ∙ sym (h .2)))
     (λ apart.
-      inr
-      (subst (λ (t : List ℕ). Apart t (values (q .line))) (sym (at p (g .0) (g .2)))
-        (subst (λ (t : List ℕ). Apart (k .piece .text (k .from (g .0))) t) (sym (at q (h .0) (h .2))) apart)))
+    inr
+    (subst (λ (t : List ℕ). Apart t (values (q .line))) (sym (at p (g .0) (g .2)))
+    (subst (λ (t : List ℕ). Apart (k .piece .text (k .from (g .0))) t) (sym (at q (h .0) (h .2))) apart)))
     (k .piece .free (k .from (g .0)) (k .from (h .0)) (k .fits-from (g .0) (g .1)) (k .fits-from (h .0) (h .1)))
 
 -- The kinds of lines: for each the pieces from each of its pairs on, and the whole.

@@ -97,11 +97,12 @@ module _ (text : List ℕ) where
 
   pub whole-end : (a b : Reader) → Reached text a → Answers a (Ok Line.End) b → (n : ℕ) → n ≡ b .line - 1 → Exact text (Ok n)
   whole-end a b at h n e =
-      exact text (Ok n)
-      ( at .0,
+      exact text (Ok n) (
+        at .0,
         subst (λ (s : Section). Run Section.Levels (at .0) s) (end-section (a .section) (b .section) (h .1)) (at .1),
         at .2 ∙ ap (λ u. joined write (at .0) ++ u) (h .0 .written ∙ h .0 .nothing refl) ∙ append-nil (joined write (at .0)),
-        omega (arith, e, h .2, at .3))
+        omega (arith, e, h .2, at .3),
+      )
 
   pub whole-fault : (a b : Reader) → Reached text a → (f : LineFault) → Answers a (Err f) b → Whole text (Err f)
   whole-fault a b at f h =

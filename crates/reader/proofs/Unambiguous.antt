@@ -49,10 +49,10 @@ sole-line s p q t u g h e =
     ⊎-elim
     (λ same. (same, append-cancel-left (write (q .line)) t u (ap (λ (x : Step). write (x .line) ++ t) (sym same) ∙ e)))
     (λ apart.
-      let k : key (p .line) ≡ key (q .line) = keyed s p g ∙ sym (keyed s q h) in
-      let f : key (q .line) ++ (values (p .line) ++ t) ≡ key (q .line) ++ (values (q .line) ++ u) =
-        ap (λ x. x ++ (values (p .line) ++ t)) (sym k) ∙ sym (append-assoc (key (p .line)) (values (p .line)) t) ∙ e ∙ append-assoc (key (q .line)) (values (q .line)) u in
-      absurd (never-both (values (p .line)) (values (q .line)) t u apart (append-cancel-left (key (q .line)) (values (p .line) ++ t) (values (q .line) ++ u) f)))
+    let k : key (p .line) ≡ key (q .line) = keyed s p g ∙ sym (keyed s q h) in
+    let f : key (q .line) ++ (values (p .line) ++ t) ≡ key (q .line) ++ (values (q .line) ++ u) =
+    ap (λ x. x ++ (values (p .line) ++ t)) (sym k) ∙ sym (append-assoc (key (p .line)) (values (p .line)) t) ∙ e ∙ append-assoc (key (q .line)) (values (q .line)) u in
+    absurd (never-both (values (p .line)) (values (q .line)) t u apart (append-cancel-left (key (q .line)) (values (p .line) ++ t) (values (q .line) ++ u) f)))
     (due-free s p q g h)
 
 -- no line but the end is due at the end
@@ -81,10 +81,12 @@ no-refusal {s} {u} {v} (l ∷ ls) (m ∷ ms) (more g x r) (more g′ x′ r′) 
     no-refusal ls ms r (subst (λ (y : Section). Run y ms v) (sym (ap (λ (y : Step). y .next) (d .0))) r′) e rest k (d .1) refused
 
 pub exact : (text : List ℕ) (r : Result ℕ LineFault) → Whole text r → Exact text r
-exact text (Ok n) w =
-    ( w,
-      λ ls run is short. ap Ok (w .3 ∙ same-runs (w .0) ls (w .1) run refl refl (sym (w .2) ∙ is)))
+exact text (Ok n) w = (
+  w,
+  λ ls run is short. ap Ok (w .3 ∙ same-runs (w .0) ls (w .1) run refl refl (sym (w .2) ∙ is)),
+)
 exact text (Err TooLong) w = (w, λ ls run is short. absurd (omega arith))
-exact text (Err (NotDue line byte)) w =
-    ( w,
-      λ ls run is short. absurd (no-refusal ls (w .0) run (w .1 .1) refl (w .1 .2 .0) (w .1 .2 .3 .0) (sym is ∙ w .1 .2 .1) (w .1 .2 .3 .1)))
+exact text (Err (NotDue line byte)) w = (
+  w,
+  λ ls run is short. absurd (no-refusal ls (w .0) run (w .1 .1) refl (w .1 .2 .0) (w .1 .2 .3 .0) (sym is ∙ w .1 .2 .1) (w .1 .2 .3 .1)),
+)

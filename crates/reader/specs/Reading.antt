@@ -105,7 +105,7 @@ pub data Run : Section → List Line → Section → Type 0 where
   more : {s t u : Section} {l : Line} {ls : List Line} → Goes s (record { line = l; next = t }) → ends l ≡ false → Run t ls u → Run s (l ∷ ls) u
 
 -- A whole text is read back: it is the lines of a run from the first section to the end, as they are written. Any other text
--- is refused, at the line after the longest such run that it begins with, and at the byte where no line that is due goes on.
+-- is refused, at the line after a run that it begins with and that no due line goes on with, and at the byte where none does.
 abbrev pub Whole : List ℕ → Result ℕ LineFault → Type 0
 Whole text (Ok n) = (ls : List Line) × Run Section.Levels ls Section.End × (text ≡ joined write ls) × (n ≡ length ls)
 Whole text (Err TooLong) = most-bytes < length text

@@ -75,7 +75,10 @@ pub(crate) fn number<'a>(text: &'a [u8], limit: u32, after: &[u8]) -> Result<(u3
 }
 
 // A number or `-`, and then the text `after`.
-pub(crate) fn optional_number<'a>(text: &'a [u8], after: &[u8]) -> Result<(Option<u32>, &'a [u8]), usize>
+pub(crate) fn optional_number<'a>(
+    text: &'a [u8],
+    after: &[u8],
+) -> Result<(Option<u32>, &'a [u8]), usize>
     requires { ⌜ Parting (now after) ⌝ }
     ensures { λ r. ⌜ Reads Optional (λ o. optional o ++ now (after .entry)) (now (text .entry)) r ⌝ }
 {
@@ -104,7 +107,11 @@ pub trait Word: Copy {
 }
 
 // The word of one of the values, and then the text `after`.
-pub(crate) fn one_of<'a, W: Word>(text: &'a [u8], all: &[W], after: &[u8]) -> Result<(W, &'a [u8]), usize>
+pub(crate) fn one_of<'a, W: Word>(
+    text: &'a [u8],
+    all: &[W],
+    after: &[u8],
+) -> Result<(W, &'a [u8]), usize>
     requires { ⌜ 0 < length (now all) ⌝ }
     ensures { λ r. ⌜ Reads (Listed (now (all .entry))) (λ w. W·Word .spelled w ++ now (after .entry)) (now (text .entry)) r ⌝ }
 {

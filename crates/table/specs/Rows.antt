@@ -6,7 +6,7 @@ use lib.Bits.{bitAnd, bitOr}
 use lib.Dec.{eqb, leb, ltb}
 use lib.ListN.{length, getD, take}
 use Rattle.std.specs.declared.option.Option.{Option}
-use Rattle.std.specs.declared.option.Option.the-variants.{Some, None}
+use Rattle.std.specs.declared.option.Option.the-variants.{None}
 use Rattle.lattice.specs.Bit.{bit, within}
 use Rattle.lattice.specs.Faults.{Refusal, refuse, lattice-kind}
 use Rattle.search.specs.First.{first, some-below}
@@ -72,11 +72,11 @@ width-of n = 1 + first (λ v. leb n (2 ^ (1 + v))) 4
 
 abbrev pub bounds-verdict : ℕ → (ℕ → ℕ) → (ℕ → ℕ) → Option Refusal
 bounds-verdict n rows turned =
-    cond (ltb (lacking n rows turned) n) (Some (refuse 10 (lacking n rows turned ∷ lacked n rows turned (lacking n rows turned) ∷ []))) None
+    cond (ltb (lacking n rows turned) n) (refuse 10 (lacking n rows turned ∷ lacked n rows turned (lacking n rows turned) ∷ [])) None
 
 abbrev pub order-verdict : ℕ → (ℕ → ℕ) → Option Refusal
 order-verdict n rows =
-    cond (ltb (first (breaks n rows) n) n) (Some (refuse 9 (first (breaks n rows) n ∷ [])))
+    cond (ltb (first (breaks n rows) n) n) (refuse 9 (first (breaks n rows) n ∷ []))
     (bounds-verdict n rows (columns n rows))
 
 -- n levels in as many of the lent rows
