@@ -58,7 +58,7 @@ tower n =
       registers = record { width = 8; cells = 1; mode = Dynamic; floor = None } ∷ [];
       states = map tower-state (counting 0 (n + 1));
       expressions = [];
-      commands = replicate n fall-command ++ goto-command n ∷ []
+      commands = replicate n fall-command ++ goto-command n ∷ [];
     }
 
 abbrev accept-of : Design → Outcome

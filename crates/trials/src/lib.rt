@@ -1,0 +1,3 @@
+// Designs on each side of every edge of the rules of acceptance, through the code.
+#[cfg(test)]
+mod acceptance;
