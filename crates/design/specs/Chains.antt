@@ -13,9 +13,9 @@ use Rattle.search.specs.First.{first}
 use Rattle.records.specs.declared.Command.{Command}
 use Rattle.records.specs.declared.Action.{Action}
 use Rattle.records.specs.declared.Action.the-variants.{Set, Tag, If, Goto, Fall}
-use Rattle.rules.specs.Rank.{ranked}
+use Rattle.shape.specs.Rank.{ranked}
 use Rattle.rules.specs.Rules.{has-children}
-use Rattle.rules.specs.Shape.{Design, command-at, register-at, state-at, enforced, holds, given, is-child, is-if, chain-rank}
+use Rattle.shape.specs.Shape.{Design, command-at, register-at, state-at, enforced, holds, given, is-child, is-if, chain-rank}
 
 -- The chain from a command on: the command with its state, its number and its record, then the chains of its alt, of what
 -- follows, and of its branches, and for a fall those of the states below its own.

@@ -1,6 +1,6 @@
 -- The records that an accepted design owns. Assumes nothing.
 use Rattle.std.specs.Of.Vec.{vec-items}
-use Rattle.rules.specs.Shape.{Design}
+use Rattle.shape.specs.Shape.{Design}
 use Rattle.design.specs.declared.owned.Records.{Records}
 
 abbrev pub owned : Records → Design

@@ -11,7 +11,7 @@ use Rattle.lattice.specs.Model.{Joins}
 use Rattle.rules.specs.declared.faults.Kind.{Kind}
 use Rattle.rules.specs.Faults.{kind-number}
 use Rattle.rules.specs.Rules.{_⊳_, broken, ports-kind, registers-kind, states-kind, expressions-kind, commands-kind}
-use Rattle.rules.specs.Shape.{Design}
+use Rattle.shape.specs.Shape.{Design}
 
 -- fewer records than the head says
 abbrev pub short-table : ℕ → ℕ → ℕ → Option Refusal

@@ -5,7 +5,7 @@ ghost use Rattle.std.specs.declared.option.Option.the-variants.{None};
 ghost use Rattle.lattice.specs.Faults.{Answers};
 ghost use Rattle.rules.specs.Faults.{refusal, kind-number};
 ghost use Rattle.rules.specs.Rules.{_⊳_};
-ghost use Rattle.rules.specs.View.{view};
+ghost use Rattle.shape.specs.View.{view};
 ghost use Rattle.design.specs.Model.{owned};
 ghost use Rattle.design.specs.Verdict.{short-table, short, short-if, cut, verdict};
 use crate::owned::Records;
@@ -13,8 +13,8 @@ use lattice::Lattice;
 use rules::DesignFault;
 use rules::DesignFromAlloc;
 use rules::Kind;
-use rules::Tables;
 use rules::first_breach;
+use shape::Tables;
 use std::alloc::AllocError;
 use std::alloc::Global;
 

@@ -2,7 +2,7 @@
 use mathlib.Core.Path.{refl}
 use Rattle.search.specs.First.{first}
 use Rattle.search.specs.Sum.{sum-below}
-use Rattle.rules.specs.Rank.{ranked-by, ranked}
+use Rattle.shape.specs.Rank.{ranked-by, ranked}
 use Rattle.table.specs.Rows.{breaks, column, columns}
 use Rattle.marked.specs.Cases.{Marked}
 

@@ -15,7 +15,7 @@ use Rattle.records.specs.declared.Action.the-variants.{Goto, Fall}
 use Rattle.records.specs.declared.Command.{Command}
 use Rattle.records.specs.declared.Mode.the-variants.{Enforced, Dynamic}
 use Rattle.records.specs.declared.State.{State}
-use Rattle.rules.specs.Shape.{Design}
+use Rattle.shape.specs.Shape.{Design}
 use Rattle.design.specs.Verdict.{verdict as accept-verdict}
 use Rattle.table.specs.Rows.{table-model, table-verdict, rows-of}
 

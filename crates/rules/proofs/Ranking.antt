@@ -11,7 +11,7 @@ use lib.ListN.{length, getD, set, replicate}
 use lib.Seq.{getD-set-same, getD-set-other}
 use Rattle.std.proofs.shelf.Tests.{cases-eq, cond-true, cond-false, ltb-true, lt-ltb, le-ltb, le-leb, and-from, cases-lt}
 use Rattle.std.proofs.shelf.Ways.{tells}
-use Rattle.rules.specs.Rank.{lower, ranked-by, ranked}
+use Rattle.shape.specs.Rank.{lower, ranked-by, ranked}
 
 module _ {I T : Type 0} (rank : I → ℕ) (none : T) (node : (I → T) → I → T) where
   -- only records of lower rank count

@@ -19,7 +19,7 @@ use Rattle.records.specs.declared.Operator.{Operator}
 use Rattle.records.specs.declared.Operator.the-variants.{Constant, Input, Read, Add, Subtract, And, Or, Xor, ShiftLeft, ShiftRight, Equal, Less}
 use Rattle.records.specs.declared.Action.{Action}
 use Rattle.records.specs.declared.Action.the-variants.{Set, Tag, If, Goto, Fall}
-use Rattle.rules.specs.Shape.{Design, port-at, register-at, state-at, expression-at, command-at, enforced, holds, given, alike, is-child, is-if, is-tag, leaves, branch-ends, is-last, owner-of, depth-of, height-of, ends-of}
+use Rattle.shape.specs.Shape.{Design, port-at, register-at, state-at, expression-at, command-at, enforced, holds, given, alike, is-child, is-if, is-tag, leaves, branch-ends, is-last, owner-of, depth-of, height-of, ends-of}
 
 -- the kinds of records
 abbrev pub ports-kind : ℕ

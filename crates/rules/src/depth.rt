@@ -6,8 +6,8 @@ ghost use lib.Dec.{ltb};
 ghost use lib.ListN.{getD};
 ghost use Rattle.rules.specs.Faults.{breach-if};
 ghost use Rattle.rules.specs.Rules.{shallow};
-ghost use Rattle.rules.specs.Shape.{depth-node, height-node, operand};
-ghost use Rattle.rules.specs.View.{view};
+ghost use Rattle.shape.specs.Shape.{depth-node, height-node, operand};
+ghost use Rattle.shape.specs.View.{view};
 use crate::faults::Breach;
 use crate::faults::Kind;
 use crate::faults::Rule;
@@ -15,10 +15,10 @@ use crate::keep::keep;
 use crate::ranks::MOST_RECORDS;
 use crate::ranks::Node;
 use crate::ranks::work_out;
-use crate::reads::record_at;
-use crate::tables::Tables;
 use records::Operator;
 use search::Test;
+use shape::Tables;
+use shape::record_at;
 
 const DEEPEST_STATE: u32 = 8;
 

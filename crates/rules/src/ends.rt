@@ -4,21 +4,21 @@ ghost use mathlib.Core.Bool.{false, not};
 ghost use Prim.Native.Nat.{ℕ, _≤_};
 ghost use denote.Ref.{now};
 ghost use lib.ListN.{getD};
-ghost use Rattle.rules.specs.Shape.{leaves, branch-ends, is-last, chain-ends, ends-of, state-at, command-at};
+ghost use Rattle.shape.specs.Shape.{leaves, branch-ends, is-last, chain-ends, ends-of, state-at, command-at};
 ghost use Rattle.rules.specs.Faults.{breach-if};
 ghost use Rattle.rules.specs.Rules.{command-ends, ended};
-ghost use Rattle.rules.specs.View.{view};
+ghost use Rattle.shape.specs.View.{view};
 use crate::faults::Breach;
 use crate::faults::Kind;
 use crate::faults::Rule;
 use crate::keep::keep;
-use crate::places::is_if;
 use crate::ranks::MOST_RECORDS;
-use crate::reads::record_at;
-use crate::tables::Tables;
 use records::Action;
 use records::Command;
 use search::Test;
+use shape::Tables;
+use shape::is_if;
+use shape::record_at;
 
 type Ends = [bool; MOST_RECORDS];
 

@@ -2,19 +2,19 @@
 ghost use mathlib.Core.Path.{_≡_};
 ghost use denote.Ref.{now};
 ghost use Rattle.rules.specs.Faults.{breach-if};
-ghost use Rattle.rules.specs.Shape.{register-at, command-at, is-tag};
+ghost use Rattle.shape.specs.Shape.{register-at, command-at, is-tag};
 ghost use Rattle.rules.specs.Rules.{is-level, bad-floor, bad-state-level, bad-tag-level, levels};
-ghost use Rattle.rules.specs.View.{view};
+ghost use Rattle.shape.specs.View.{view};
 use crate::faults::Breach;
 use crate::faults::Kind;
 use crate::faults::Rule;
 use crate::keep::keep;
-use crate::links::is_number;
-use crate::sizes::is_enforced;
-use crate::tables::Tables;
 use lattice::Lattice;
 use records::Action;
 use search::Test;
+use shape::Tables;
+use shape::is_enforced;
+use shape::is_number;
 
 fn names_level<L: Lattice>(lattice: &L, field: Option<u32>) -> bool
     ensures { λ r. ⌜ r ≡ is-level (L·Lattice .model (now (lattice .entry)) .joins) field ⌝ }

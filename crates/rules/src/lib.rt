@@ -8,9 +8,7 @@ mod links;
 mod numbers;
 mod places;
 mod ranks;
-mod reads;
 mod sizes;
-mod tables;
 mod verdict;
 
 pub use faults::Breach;
@@ -25,5 +23,4 @@ pub use faults::Kind;
 pub use faults::KindDisplay;
 pub use faults::Rule;
 pub use faults::RuleDisplay;
-pub use tables::Tables;
 pub use verdict::first_breach;

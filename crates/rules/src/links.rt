@@ -5,15 +5,13 @@ ghost use denote.Ref.{now};
 ghost use lib.Dec.{eqb};
 ghost use Rattle.std.specs.declared.option.Option.the-variants.{Some};
 ghost use Rattle.rules.specs.Faults.{breach-if};
-ghost use Rattle.rules.specs.Shape.{given, holds, register-at, state-at, command-at};
+ghost use Rattle.shape.specs.Shape.{given, register-at, state-at, command-at};
 ghost use Rattle.rules.specs.Rules.{names, later, indexes, floor-placed, state-linked, expression-linked, cell-named, fields-linked, once, command-names, times-named, command-linked, linked};
-ghost use Rattle.rules.specs.View.{view};
+ghost use Rattle.shape.specs.View.{view};
 use crate::faults::Breach;
 use crate::faults::Kind;
 use crate::faults::Rule;
 use crate::keep::keep;
-use crate::sizes::is_enforced;
-use crate::tables::Tables;
 use records::Action;
 use records::Command;
 use records::Expression;
@@ -22,6 +20,9 @@ use records::Register;
 use search::Amount;
 use search::Test;
 use search::sum_below;
+use shape::Tables;
+use shape::is_enforced;
+use shape::is_number;
 
 // A field that must name a record below n.
 fn is_named(n: u32, field: Option<u32>) -> bool
@@ -56,89 +57,73 @@ fn is_floor_placed(register: Register) -> bool
     is_placed(is_enforced(register.mode), register.floor)
 }
 
-impl Tables<'_> {
-    // An index into register x, by an expression below n: absent exactly where there is one cell.
-    fn is_indexed(&self, n: u32, x: u32, index: Option<u32>) -> bool
-        ensures { λ r. ⌜ r ≡ indexes (view (now (self .entry))) n x index ⌝ }
-    {
-        if self.register(x).cells == 1 {
-            index.is_none()
-        } else {
-            is_named(n, index)
-        }
-    }
-
-    fn is_state_linked(&self, s: u32) -> bool
-        ensures { λ r. ⌜ r ≡ state-linked (view (now (self .entry))) s ⌝ }
-    {
-        let state = self.state(s);
-        let parent = if s == 0 {
-            state.parent.is_none()
-        } else {
-            is_named(s, state.parent)
-        };
-        parent
-            & is_placed(is_enforced(state.mode), state.level)
-            & (state.first < self.head.commands)
-    }
-
-    fn is_expression_linked(&self, k: u32) -> bool
-        ensures { λ r. ⌜ r ≡ expression-linked (view (now (self .entry))) k ⌝ }
-    {
-        let x = self.expression(k);
-        match x.op {
-            Operator::Constant => x.b.is_none(),
-            Operator::Input => (x.a < self.head.ports) & x.b.is_none(),
-            Operator::Read => (x.a < self.head.registers) & self.is_indexed(k, x.a, x.b),
-            _ => (x.a < k) & is_named(k, x.b),
-        }
-    }
-}
-
-impl Tables<'_> {
-    // Register x and its index, as a set and a tag name them.
-    fn is_cell_named(&self, command: Command) -> bool
-        ensures { λ r. ⌜ r ≡ cell-named (view (now (self .entry))) command ⌝ }
-    {
-        match command.x {
-            Some(x) => (x < self.head.registers)
-                & self.is_indexed(self.head.expressions, x, command.i),
-            None => false,
-        }
-    }
-
-    fn are_fields_linked(&self, k: u32) -> bool
-        ensures { λ r. ⌜ r ≡ fields-linked (view (now (self .entry))) k ⌝ }
-    {
-        let command = self.command(k);
-        let Command {
-            action,
-            x,
-            i,
-            e,
-            ..
-        } = command;
-        match action {
-            Action::Set => self.is_cell_named(command) & is_named(self.head.expressions, e),
-            Action::Tag => self.is_cell_named(command) & e.is_some(),
-            Action::If => {
-                is_later(k, self.head.commands, x)
-                    & is_later(k, self.head.commands, i)
-                    & is_named(self.head.expressions, e)
-            }
-            Action::Goto => is_named(self.head.states, x) & (i.is_none() & e.is_none()),
-            Action::Fall => x.is_none() & (i.is_none() & e.is_none()),
-        }
-    }
-}
-
-// A field that holds this number.
-pub(crate) fn is_number(field: Option<u32>, n: u32) -> bool
-    ensures { λ r. ⌜ r ≡ holds field n ⌝ }
+// An index into register x, by an expression below n: absent exactly where there is one cell.
+fn is_indexed(tables: &Tables<'_>, n: u32, x: u32, index: Option<u32>) -> bool
+    ensures { λ r. ⌜ r ≡ indexes (view (now (tables .entry))) n x index ⌝ }
 {
-    match field {
-        Some(m) => m == n,
+    if tables.register(x).cells == 1 {
+        index.is_none()
+    } else {
+        is_named(n, index)
+    }
+}
+
+fn is_state_linked(tables: &Tables<'_>, s: u32) -> bool
+    ensures { λ r. ⌜ r ≡ state-linked (view (now (tables .entry))) s ⌝ }
+{
+    let state = tables.state(s);
+    let parent = if s == 0 {
+        state.parent.is_none()
+    } else {
+        is_named(s, state.parent)
+    };
+    parent & is_placed(is_enforced(state.mode), state.level) & (state.first < tables.head.commands)
+}
+
+fn is_expression_linked(tables: &Tables<'_>, k: u32) -> bool
+    ensures { λ r. ⌜ r ≡ expression-linked (view (now (tables .entry))) k ⌝ }
+{
+    let x = tables.expression(k);
+    match x.op {
+        Operator::Constant => x.b.is_none(),
+        Operator::Input => (x.a < tables.head.ports) & x.b.is_none(),
+        Operator::Read => (x.a < tables.head.registers) & is_indexed(tables, k, x.a, x.b),
+        _ => (x.a < k) & is_named(k, x.b),
+    }
+}
+
+// Register x and its index, as a set and a tag name them.
+fn is_cell_named(tables: &Tables<'_>, command: Command) -> bool
+    ensures { λ r. ⌜ r ≡ cell-named (view (now (tables .entry))) command ⌝ }
+{
+    match command.x {
+        Some(x) => (x < tables.head.registers)
+            & is_indexed(tables, tables.head.expressions, x, command.i),
         None => false,
+    }
+}
+
+fn are_fields_linked(tables: &Tables<'_>, k: u32) -> bool
+    ensures { λ r. ⌜ r ≡ fields-linked (view (now (tables .entry))) k ⌝ }
+{
+    let command = tables.command(k);
+    let Command {
+        action,
+        x,
+        i,
+        e,
+        ..
+    } = command;
+    match action {
+        Action::Set => is_cell_named(tables, command) & is_named(tables.head.expressions, e),
+        Action::Tag => is_cell_named(tables, command) & e.is_some(),
+        Action::If => {
+            is_later(k, tables.head.commands, x)
+                & is_later(k, tables.head.commands, i)
+                & is_named(tables.head.expressions, e)
+        }
+        Action::Goto => is_named(tables.head.states, x) & (i.is_none() & e.is_none()),
+        Action::Fall => x.is_none() & (i.is_none() & e.is_none()),
     }
 }
 
@@ -219,7 +204,7 @@ impl Test for UnlinkedState<'_> as UnlinkedStateTest {
     ghost test = { λ x n. not (state-linked (view (x .tables)) n) };
 
     fn passes(&self, n: u32) -> bool {
-        !self.tables.is_state_linked(n)
+        !is_state_linked(&self.tables, n)
     }
 }
 
@@ -232,7 +217,7 @@ impl Test for UnlinkedExpression<'_> as UnlinkedExpressionTest {
     ghost test = { λ x n. not (expression-linked (view (x .tables)) n) };
 
     fn passes(&self, n: u32) -> bool {
-        !self.tables.is_expression_linked(n)
+        !is_expression_linked(&self.tables, n)
     }
 }
 
@@ -249,7 +234,7 @@ impl Test for UnlinkedCommand<'_> as UnlinkedCommandTest {
         let command = tables.command(n);
         let links = is_later(n, tables.head.commands, command.next)
             & is_later(n, tables.head.commands, command.alt);
-        !(tables.are_fields_linked(n) & links & is_named_once(tables, n))
+        !(are_fields_linked(&tables, n) & links & is_named_once(tables, n))
     }
 }
 

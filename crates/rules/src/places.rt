@@ -4,25 +4,26 @@ ghost use mathlib.Core.Bool.{not};
 ghost use Prim.Native.Nat.{_≤_};
 ghost use denote.Ref.{now};
 ghost use lib.ListN.{getD};
-ghost use Rattle.rules.specs.Shape.{is-first, links-to, links, is-if, alike, is-child, owner-node};
+ghost use Rattle.shape.specs.Shape.{is-first, links-to, links, alike, is-child, owner-node};
 ghost use Rattle.rules.specs.Faults.{breach-if};
 ghost use Rattle.rules.specs.Rules.{enforced-register, enforced-state, goto-placed, action-placed, has-check, command-placed, placed};
-ghost use Rattle.rules.specs.View.{view};
+ghost use Rattle.shape.specs.View.{view};
 use crate::faults::Breach;
 use crate::faults::Kind;
 use crate::faults::Rule;
 use crate::keep::keep;
-use crate::links::is_number;
 use crate::ranks::MOST_RECORDS;
 use crate::ranks::Node;
 use crate::ranks::work_out;
-use crate::reads::record_at;
-use crate::sizes::is_enforced;
-use crate::tables::Tables;
 use records::Action;
 use records::Command;
 use search::Test;
 use search::first_below;
+use shape::Tables;
+use shape::is_enforced;
+use shape::is_if;
+use shape::is_number;
+use shape::record_at;
 
 // A command names command k.
 fn links_to(command: Command, k: u32) -> bool
@@ -30,15 +31,6 @@ fn links_to(command: Command, k: u32) -> bool
 {
     let branch = is_number(command.x, k) | is_number(command.i, k);
     is_number(command.next, k) | is_number(command.alt, k) | (is_if(command.action) & branch)
-}
-
-pub(crate) fn is_if(action: Action) -> bool
-    ensures { λ r. ⌜ r ≡ is-if action ⌝ }
-{
-    match action {
-        Action::If => true,
-        _ => false,
-    }
 }
 
 // The states that begin with command k.
@@ -118,53 +110,51 @@ impl Test for ChildOf<'_> as ChildOfTest {
     }
 }
 
-impl Tables<'_> {
-    fn is_register_enforced(&self, x: Option<u32>) -> bool
-        ensures { λ r. ⌜ r ≡ enforced-register (view (now (self .entry))) x ⌝ }
-    {
-        is_enforced(self.register(x.unwrap_or(0)).mode)
-    }
+fn is_register_enforced(tables: &Tables<'_>, x: Option<u32>) -> bool
+    ensures { λ r. ⌜ r ≡ enforced-register (view (now (tables .entry))) x ⌝ }
+{
+    is_enforced(tables.register(x.unwrap_or(0)).mode)
+}
 
-    fn is_state_enforced(&self, x: Option<u32>) -> bool
-        ensures { λ r. ⌜ r ≡ enforced-state (view (now (self .entry))) x ⌝ }
-    {
-        is_enforced(self.state(x.unwrap_or(0)).mode)
-    }
+fn is_state_enforced(tables: &Tables<'_>, x: Option<u32>) -> bool
+    ensures { λ r. ⌜ r ≡ enforced-state (view (now (tables .entry))) x ⌝ }
+{
+    is_enforced(tables.state(x.unwrap_or(0)).mode)
+}
 
-    // A goto in state s: not in the root, and to a state with the same parent.
-    fn is_goto_placed(&self, s: u32, x: Option<u32>) -> bool
-        ensures { λ r. ⌜ r ≡ goto-placed (view (now (self .entry))) s x ⌝ }
-    {
-        (s != 0) & are_alike(self.state(x.unwrap_or(0)).parent, self.state(s).parent)
-    }
+// A goto in state s: not in the root, and to a state with the same parent.
+fn is_goto_placed(tables: &Tables<'_>, s: u32, x: Option<u32>) -> bool
+    ensures { λ r. ⌜ r ≡ goto-placed (view (now (tables .entry))) s x ⌝ }
+{
+    (s != 0) & are_alike(tables.state(x.unwrap_or(0)).parent, tables.state(s).parent)
+}
 
-    // A command in state s.
-    fn is_action_placed(&self, s: u32, command: Command) -> bool
-        ensures { λ r. ⌜ r ≡ action-placed (view (now (self .entry))) s command (command .action) ⌝ }
-    {
-        match command.action {
-            Action::Set => true,
-            Action::Tag => self.is_register_enforced(command.x),
-            Action::If => true,
-            Action::Goto => self.is_goto_placed(s, command.x),
-            Action::Fall => {
-                let tables = *self;
-                first_below(&ChildOf { tables, s }, self.head.states) < self.head.states
-            }
+// A command in state s.
+fn is_action_placed(tables: &Tables<'_>, s: u32, command: Command) -> bool
+    ensures { λ r. ⌜ r ≡ action-placed (view (now (tables .entry))) s command (command .action) ⌝ }
+{
+    match command.action {
+        Action::Set => true,
+        Action::Tag => is_register_enforced(tables, command.x),
+        Action::If => true,
+        Action::Goto => is_goto_placed(tables, s, command.x),
+        Action::Fall => {
+            let lent = *tables;
+            first_below(&ChildOf { tables: lent, s }, tables.head.states) < tables.head.states
         }
     }
+}
 
-    // The check of the command may fail, so that it may have an alt.
-    fn has_check(&self, command: Command) -> bool
-        ensures { λ r. ⌜ r ≡ has-check (view (now (self .entry))) command (command .action) ⌝ }
-    {
-        match command.action {
-            Action::Set => self.is_register_enforced(command.x),
-            Action::Tag => true,
-            Action::If => false,
-            Action::Goto => self.is_state_enforced(command.x),
-            Action::Fall => true,
-        }
+// The check of the command may fail, so that it may have an alt.
+fn has_check(tables: &Tables<'_>, command: Command) -> bool
+    ensures { λ r. ⌜ r ≡ has-check (view (now (tables .entry))) command (command .action) ⌝ }
+{
+    match command.action {
+        Action::Set => is_register_enforced(tables, command.x),
+        Action::Tag => true,
+        Action::If => false,
+        Action::Goto => is_state_enforced(tables, command.x),
+        Action::Fall => true,
     }
 }
 
@@ -181,8 +171,8 @@ impl Test for Misplaced<'_, '_> as MisplacedTest {
         let command = self.tables.command(n);
         let owners = self.owners;
         let owner = record_at(owners, n, 0);
-        !(self.tables.is_action_placed(owner, command)
-            & (command.alt.is_none() | self.tables.has_check(command)))
+        !(is_action_placed(&self.tables, owner, command)
+            & (command.alt.is_none() | has_check(&self.tables, command)))
     }
 }
 

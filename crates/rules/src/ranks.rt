@@ -4,7 +4,7 @@ ghost use mathlib.Core.Bool.{cond};
 ghost use Prim.Native.Nat.{ℕ, _+_, _≤_, _<_};
 ghost use lib.Dec.{ltb};
 ghost use lib.ListN.{getD};
-ghost use Rattle.rules.specs.Rank.{ranked};
+ghost use Rattle.shape.specs.Rank.{ranked};
 
 // No table of a design is longer.
 pub(crate) const MOST_RECORDS: usize = 256;

@@ -4,19 +4,19 @@ ghost use denote.Ref.{now};
 ghost use Prim.Native.Nat.{_+_};
 ghost use Rattle.rules.specs.Faults.{breach-if, kind-number};
 ghost use Rattle.rules.specs.Rules.{outside, bad-size, bad-port, bad-register, cells-below, count-range, counts, sizes, _⊳_};
-ghost use Rattle.rules.specs.Shape.{enforced, register-at};
-ghost use Rattle.rules.specs.View.{view};
+ghost use Rattle.shape.specs.Shape.{register-at};
+ghost use Rattle.shape.specs.View.{view};
 use crate::faults::Breach;
 use crate::faults::Kind;
 use crate::faults::Rule;
 use crate::keep::keep;
-use crate::tables::Tables;
 use records::Head;
-use records::Mode;
 use records::Register;
 use search::Amount;
 use search::Test;
 use search::sum_below;
+use shape::Tables;
+use shape::is_enforced;
 
 const MOST_PORTS: u32 = 16;
 
@@ -88,15 +88,6 @@ fn is_bad_size(register: Register) -> bool
     is_outside(1, MOST_BITS, register.width)
         | (register.cells == 0)
         | (!enforced & !(register.cells == 1))
-}
-
-pub(crate) fn is_enforced(mode: Mode) -> bool
-    ensures { λ r. ⌜ r ≡ enforced mode ⌝ }
-{
-    match mode {
-        Mode::Enforced => true,
-        Mode::Dynamic => false,
-    }
 }
 
 // The cells of each register.

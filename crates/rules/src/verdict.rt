@@ -2,7 +2,7 @@
 ghost use mathlib.Core.Path.{_≡_};
 ghost use Rattle.rules.specs.Faults.{breach-if};
 ghost use Rattle.rules.specs.Rules.{broken};
-ghost use Rattle.rules.specs.View.{view};
+ghost use Rattle.shape.specs.View.{view};
 use crate::depth::check_depth;
 use crate::ends::check_ends;
 use crate::faults::Breach;
@@ -10,8 +10,8 @@ use crate::levels::check_levels;
 use crate::links::check_links;
 use crate::places::check_places;
 use crate::sizes::check_sizes;
-use crate::tables::Tables;
 use lattice::Lattice;
+use shape::Tables;
 
 // The first rule that is broken, and where.
 pub fn first_breach<L: Lattice>(lattice: &L, tables: Tables<'_>) -> Option<Breach>

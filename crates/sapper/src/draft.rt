@@ -12,7 +12,7 @@ use rules::DesignFromAlloc;
 use rules::DesignFromLattice;
 use rules::DesignFromLine;
 use rules::DesignFromRefused;
-use rules::Tables;
+use shape::Tables;
 use std::alloc::Global;
 use table::Table;
 

@@ -12,7 +12,7 @@ use records::State;
 use rules::Breach;
 use rules::DesignFault;
 use rules::Kind;
-use rules::Tables;
+use shape::Tables;
 use std::alloc::Global;
 use std::test::*;
 use table::Table;

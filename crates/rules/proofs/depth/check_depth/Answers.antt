@@ -1,8 +1,8 @@
 use mathlib.Core.Path.{ap, ap₂, _∙_}
 use lib.Dec.{ltb}
 use Rattle.rules.specs.Rules.{_⊳_}
-use Rattle.rules.specs.Shape.{depth-of, height-of}
-use Rattle.rules.specs.View.{view}
+use Rattle.shape.specs.Shape.{depth-of, height-of}
+use Rattle.shape.specs.View.{view}
 use Rattle.rules.proofs.Ranking.{held}
 use Rattle.rules.proofs.Sweeps.{sweep-same}
 use Rattle.rules.proofs.depth.check_depth.Needs as need

@@ -3,8 +3,8 @@ use mathlib.Core.Bool.{Bool, false, not}
 use Prim.Native.Nat.{ℕ}
 use lib.ListN.{getD}
 use Rattle.rules.specs.Rules.{_⊳_, sweep, command-ends}
-use Rattle.rules.specs.Shape.{state-at, command-at, ends-of}
-use Rattle.rules.specs.View.{view}
+use Rattle.shape.specs.Shape.{state-at, command-at, ends-of}
+use Rattle.shape.specs.View.{view}
 use Rattle.rules.proofs.ends.check_ends.Needs as need
 
 pub returns : need.returns

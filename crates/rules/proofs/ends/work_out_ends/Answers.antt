@@ -3,8 +3,8 @@ use mathlib.Core.Bool.{false}
 use Prim.Native.Nat.{ℕ, suc, _-_}
 use native.Mathlib.Omega.{arith}
 use lib.ListN.{length-set, getD}
-use Rattle.rules.specs.Shape.{chain-ends, ends-node}
-use Rattle.rules.specs.View.{view}
+use Rattle.shape.specs.Shape.{chain-ends, ends-node}
+use Rattle.shape.specs.View.{view}
 use Rattle.rules.proofs.Ranking.{Sunk, sunk-none, sunk-more, sunk-all}
 use Rattle.rules.proofs.ends.work_out_ends.Needs as need
 

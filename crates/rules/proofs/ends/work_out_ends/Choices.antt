@@ -1,8 +1,8 @@
 use mathlib.Core.Path.{_≡_}
 use mathlib.Core.Bool.{false}
 use lib.ListN.{length}
-use Rattle.rules.specs.Shape.{ends-node}
-use Rattle.rules.specs.View.{view}
+use Rattle.shape.specs.Shape.{ends-node}
+use Rattle.shape.specs.View.{view}
 use Rattle.rules.proofs.Ranking.{Sunk}
 use Rattle.rules.proofs.ends.work_out_ends.Given as given
 

@@ -1,8 +1,8 @@
 use mathlib.Core.Path.{ap, _∙_}
 use mathlib.Core.Bool.{not, _&&_, _||_}
 use Rattle.rules.specs.Rules.{action-placed, has-check, command-placed}
-use Rattle.rules.specs.Shape.{command-at, given, owner-of}
-use Rattle.rules.specs.View.{view}
+use Rattle.shape.specs.Shape.{command-at, given, owner-of}
+use Rattle.shape.specs.View.{view}
 use Rattle.rules.proofs.Ranking.{held}
 use Rattle.rules.proofs.Sweeps.{sweep-same}
 use Rattle.rules.proofs.places.check_places.Needs as need

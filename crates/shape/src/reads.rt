@@ -1,8 +1,8 @@
 // The records of a design by their numbers.
 ghost use mathlib.Core.Path.{_≡_};
 ghost use lib.ListN.{getD};
-ghost use Rattle.rules.specs.Shape.{port-at, register-at, state-at, expression-at, command-at};
-ghost use Rattle.rules.specs.View.{view};
+ghost use Rattle.shape.specs.Shape.{port-at, register-at, state-at, expression-at, command-at};
+ghost use Rattle.shape.specs.View.{view};
 use crate::tables::Tables;
 use records::Action;
 use records::Command;
@@ -14,7 +14,7 @@ use records::Register;
 use records::State;
 
 // Record n of a table, or `missing` past its end.
-pub(crate) fn record_at<T: Copy>(table: &[T], n: u32, missing: T) -> T
+pub fn record_at<T: Copy>(table: &[T], n: u32, missing: T) -> T
     ensures { λ r. ⌜ r ≡ getD (now (table .entry)) n missing ⌝ }
 {
     match table.get(n as usize) {
@@ -25,13 +25,13 @@ pub(crate) fn record_at<T: Copy>(table: &[T], n: u32, missing: T) -> T
 
 // A record past the end of its table reads as one that does nothing.
 impl Tables<'_> {
-    pub(crate) fn port(&self, n: u32) -> Port
+    pub fn port(&self, n: u32) -> Port
         ensures { λ r. ⌜ r ≡ port-at (view (now (self .entry))) n ⌝ }
     {
         record_at(self.ports, n, Port { width: 0 })
     }
 
-    pub(crate) fn register(&self, n: u32) -> Register
+    pub fn register(&self, n: u32) -> Register
         ensures { λ r. ⌜ r ≡ register-at (view (now (self .entry))) n ⌝ }
     {
         let missing = Register {
@@ -43,7 +43,7 @@ impl Tables<'_> {
         record_at(self.registers, n, missing)
     }
 
-    pub(crate) fn state(&self, n: u32) -> State
+    pub fn state(&self, n: u32) -> State
         ensures { λ r. ⌜ r ≡ state-at (view (now (self .entry))) n ⌝ }
     {
         let missing = State {
@@ -55,7 +55,7 @@ impl Tables<'_> {
         record_at(self.states, n, missing)
     }
 
-    pub(crate) fn expression(&self, n: u32) -> Expression
+    pub fn expression(&self, n: u32) -> Expression
         ensures { λ r. ⌜ r ≡ expression-at (view (now (self .entry))) n ⌝ }
     {
         let missing = Expression {
@@ -66,7 +66,7 @@ impl Tables<'_> {
         record_at(self.expressions, n, missing)
     }
 
-    pub(crate) fn command(&self, n: u32) -> Command
+    pub fn command(&self, n: u32) -> Command
         ensures { λ r. ⌜ r ≡ command-at (view (now (self .entry))) n ⌝ }
     {
         let missing = Command {

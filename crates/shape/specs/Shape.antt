@@ -20,7 +20,7 @@ use Rattle.records.specs.declared.Operator.{Operator}
 use Rattle.records.specs.declared.Operator.the-variants.{Constant, Input, Read, Add, Subtract, And, Or, Xor, ShiftLeft, ShiftRight, Equal, Less}
 use Rattle.records.specs.declared.Action.{Action}
 use Rattle.records.specs.declared.Action.the-variants.{Set, Tag, If, Goto, Fall}
-use Rattle.rules.specs.Rank.{ranked}
+use Rattle.shape.specs.Rank.{ranked}
 
 pub record Design : Type 0 where
   pub head : Head

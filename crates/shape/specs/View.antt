@@ -1,7 +1,7 @@
 -- The design that lent tables hold. Assumes nothing.
 use denote.Ref.{now}
-use Rattle.rules.specs.Shape.{Design}
-use Rattle.rules.specs.declared.tables.Tables.{Tables}
+use Rattle.shape.specs.Shape.{Design}
+use Rattle.shape.specs.declared.tables.Tables.{Tables}
 
 abbrev pub view : Tables → Design
 view t =
