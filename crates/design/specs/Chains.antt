@@ -1,10 +1,9 @@
 -- The chains of commands as trees, the states below a state, and what a chain may reach. Assumes nothing.
-use mathlib.Core.Bool.{Bool, true, false, not, _&&_, _||_, cond}
+use mathlib.Core.Bool.{Bool, true, false, _&&_, _||_, cond}
 use mathlib.Core.List.{List, [], _∷_, map}
-use Prim.Native.Nat.{ℕ, suc, _+_, _-_, _*_, _^_}
-use lib.Dec.{eqb, ltb}
+use Prim.Native.Nat.{ℕ, _+_, _-_, _*_, _^_}
+use lib.Dec.{eqb}
 use Rattle.std.specs.Iters.{counting}
-use Rattle.std.specs.Options.{valueOr}
 use Rattle.std.specs.declared.option.Option.{Option}
 use Rattle.std.specs.declared.option.Option.the-variants.{Some, None}
 use Rattle.lattice.specs.Folds.{joined}
@@ -15,7 +14,7 @@ use Rattle.records.specs.declared.Action.{Action}
 use Rattle.records.specs.declared.Action.the-variants.{Set, Tag, If, Goto, Fall}
 use Rattle.shape.specs.Rank.{ranked}
 use Rattle.rules.specs.Rules.{has-children}
-use Rattle.shape.specs.Shape.{Design, command-at, register-at, state-at, enforced, holds, given, is-child, is-if, chain-rank}
+use Rattle.shape.specs.Shape.{Design, command-at, register-at, state-at, enforced, holds, is-child, is-if, chain-rank}
 
 -- The chain from a command on: the command with its state, its number and its record, then the chains of its alt, of what
 -- follows, and of its branches, and for a fall those of the states below its own.
@@ -31,13 +30,13 @@ pub record Spot : Type 0 where
 abbrev pub spot : ℕ → ℕ → Spot
 spot s k = record { state = s; command = k }
 
--- state t is a descendant of state s
+-- state t is a descendant of state s: its parent is s or below s
+abbrev pub under : ℕ → (ℕ → Bool) → Option ℕ → Bool
+under s below None = false
+under s below (Some p) = eqb p s || below p
+
 abbrev pub below-node : Design → ℕ → (ℕ → Bool) → ℕ → Bool
-below-node d s below t = under (state-at d t .parent)
-  where
-    under : Option ℕ → Bool
-    under None = false
-    under (Some p) = eqb p s || below p
+below-node d s below t = under s below (state-at d t .parent)
 
 abbrev pub is-below : Design → ℕ → ℕ → Bool
 is-below d s = ranked (λ t. t) false (below-node d s)
@@ -87,39 +86,44 @@ abbrev pub lowest-child : Design → ℕ → Option ℕ
 lowest-child d s = cond (has-children d s) (Some (first (is-child d s) (d .head .states))) None
 
 -- What a command may reach by itself. Registers: the dynamic one that it sets.
-abbrev pub own-registers : Design → ℕ → Command → ℕ
-own-registers d s c = by (c .action)
-  where
-    set-register : Option ℕ → ℕ
-    set-register None = 0
-    set-register (Some x) = cond (enforced (register-at d x .mode)) 0 (2 ^ x)
+abbrev pub set-register : Design → Option ℕ → ℕ
+set-register d None = 0
+set-register d (Some x) = cond (enforced (register-at d x .mode)) 0 (2 ^ x)
 
-    by : Action → ℕ
-    by Set = set-register (c .x)
-    by Tag = 0
-    by If = 0
-    by Goto = 0
-    by Fall = 0
+abbrev pub by-set : ℕ → Action → ℕ
+by-set registers Set = registers
+by-set registers Tag = 0
+by-set registers If = 0
+by-set registers Goto = 0
+by-set registers Fall = 0
+
+abbrev pub own-registers : Design → ℕ → Command → ℕ
+own-registers d s c = by-set (set-register d (c .x)) (c .action)
 
 -- Pointers: for a goto those of its state, of that state's parent and of its descendants. A leaf has no pointer.
-abbrev pub own-pointers : Design → ℕ → Command → ℕ
-own-pointers d s c = by (c .action)
-  where
-    moved : ℕ → Bool
-    moved t = has-children d t && ((eqb t s || holds (state-at d s .parent) t) || is-below d s t)
+abbrev pub is-moved : Design → ℕ → (ℕ → Bool) → ℕ → Bool
+is-moved d s below t = has-children d t && ((eqb t s || holds (state-at d s .parent) t) || below t)
 
-    by : Action → ℕ
-    by Set = 0
-    by Tag = 0
-    by If = 0
-    by Goto = set-where moved (d .head .states)
-    by Fall = 0
+abbrev pub moved : Design → ℕ → ℕ
+moved d s = set-where (is-moved d s (is-below d s)) (d .head .states)
+
+abbrev pub by-goto : ℕ → Action → ℕ
+by-goto pointers Set = 0
+by-goto pointers Tag = 0
+by-goto pointers If = 0
+by-goto pointers Goto = pointers
+by-goto pointers Fall = 0
+
+abbrev pub own-pointers : Design → ℕ → Command → ℕ
+own-pointers d s c = by-goto (moved d s) (c .action)
 
 -- The reach of a chain: what its commands may reach by themselves, branches, alts and, for a fall, all descendants included.
 unfoldable pub reach : ℕ → (ℕ → Command → ℕ) → Chain → ℕ
 reach n own stop = 0
 reach n own (run s k c alt next then-branch else-branch states) =
-    union (own s c ∷ reach n own alt ∷ reach n own next ∷ reach n own then-branch ∷ reach n own else-branch ∷ map (λ t. reach n own (states t)) (counting 0 n))
+    union
+    (own s c ∷ reach n own alt ∷ reach n own next ∷ reach n own then-branch ∷ reach n own else-branch
+    ∷ union (map (λ t. reach n own (states t)) (counting 0 n)) ∷ [])
 
 abbrev pub register-reach : Design → Chain → ℕ
 register-reach d = reach (d .head .states) (own-registers d)

@@ -1,13 +1,15 @@
 ghost use mathlib.Core.Path.{_≡_};
 ghost use Rattle.std.specs.Vec.{made};
-ghost use lib.ListN.{length};
 ghost use Rattle.std.specs.declared.option.Option.the-variants.{None};
 ghost use Rattle.lattice.specs.Faults.{Answers};
 ghost use Rattle.rules.specs.Faults.{refusal, kind-number};
 ghost use Rattle.rules.specs.Rules.{_⊳_};
 ghost use Rattle.shape.specs.View.{view};
+ghost use Rattle.design.specs.Facts.{Worked-out};
 ghost use Rattle.design.specs.Model.{owned};
 ghost use Rattle.design.specs.Verdict.{short-table, short, short-if, cut, verdict};
+use crate::accepted::Accepted;
+use crate::facts::work_out_facts;
 use crate::owned::Records;
 use lattice::Lattice;
 use rules::DesignFault;
@@ -17,13 +19,6 @@ use rules::first_breach;
 use shape::Tables;
 use std::alloc::AllocError;
 use std::alloc::Global;
-
-// A design that keeps every rule, with the lattice under which it was accepted. Only `accept` makes one.
-#[derive(Drop)]
-pub struct Accepted<L> {
-    lattice: L,
-    records: Records,
-}
 
 // A table that is shorter than the head says, after what was found before it.
 fn short_after(before: Option<Kind>, kind: Kind, len: usize, count: u32) -> Option<Kind>
@@ -91,7 +86,7 @@ pub fn accept<L: Lattice + Drop>(
     lattice: L,
     tables: Tables<'_>,
 ) -> Result<Accepted<L>, DesignFault>
-    ensures { λ r. ⌜ Answers refusal (verdict (L·Lattice .model lattice .joins) (view (tables .entry))) (λ a. (a .lattice ≡ lattice) × (owned (a .records) ≡ cut (view (tables .entry)))) r ⌝ }
+    ensures { λ r. ⌜ Answers refusal (verdict (L·Lattice .model lattice .joins) (view (tables .entry))) (λ a. (a .lattice ≡ lattice) × (owned (a .records) ≡ cut (view (tables .entry))) × Worked-out (cut (view (tables .entry))) (a .facts)) r ⌝ }
 {
     if let Some(kind) = first_short(tables) {
         return Err(DesignFault::ShortTable { kind });
@@ -101,5 +96,10 @@ pub fn accept<L: Lattice + Drop>(
         return Err(DesignFault::Broken(breach));
     }
     let records = copy_records(heap, tables)?;
-    Ok(Accepted { lattice, records })
+    let facts = work_out_facts(heap, tables)?;
+    Ok(Accepted {
+        lattice,
+        records,
+        facts,
+    })
 }

@@ -15,7 +15,7 @@ use Rattle.shape.specs.Rank.{lower, ranked-by, ranked}
 
 module _ {I T : Type 0} (rank : I → ℕ) (none : T) (node : (I → T) → I → T) where
   -- only records of lower rank count
-  lower-same : (f g : I → T) (i : I) → ((j : I) → rank j < rank i → f j ≡ g j) → lower rank none node f i ≡ lower rank none node g i
+  pub lower-same : (f g : I → T) (i : I) → ((j : I) → rank j < rank i → f j ≡ g j) → lower rank none node f i ≡ lower rank none node g i
   lower-same f g i h = fun-ext (λ j. at j (ltb (rank j) (rank i)) refl)
     where
       at : (j : I) (b : Bool) → ltb (rank j) (rank i) ≡ b → cond b (f j) none ≡ cond b (g j) none

@@ -23,4 +23,8 @@ pub use faults::Kind;
 pub use faults::KindDisplay;
 pub use faults::Rule;
 pub use faults::RuleDisplay;
+pub use places::ChildOf;
+pub use places::ChildOfTest;
+pub use places::owners;
+pub use ranks::MOST_RECORDS;
 pub use verdict::first_breach;

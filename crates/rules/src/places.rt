@@ -1,10 +1,10 @@
 // Rule 6: where commands stand.
 ghost use mathlib.Core.Path.{_≡_};
 ghost use mathlib.Core.Bool.{not};
-ghost use Prim.Native.Nat.{_≤_};
+ghost use Prim.Native.Nat.{ℕ, _≤_, _<_};
 ghost use denote.Ref.{now};
 ghost use lib.ListN.{getD};
-ghost use Rattle.shape.specs.Shape.{is-first, links-to, links, alike, is-child, owner-node};
+ghost use Rattle.shape.specs.Shape.{is-first, links-to, links, alike, is-child, owner-node, owner-of};
 ghost use Rattle.rules.specs.Faults.{breach-if};
 ghost use Rattle.rules.specs.Rules.{enforced-register, enforced-state, goto-placed, action-placed, has-check, command-placed, placed};
 ghost use Rattle.shape.specs.View.{view};
@@ -85,6 +85,15 @@ impl Node for Owner<'_> as OwnerNode {
     }
 }
 
+// The states of the commands, of the first 256.
+pub fn owners(tables: Tables<'_>) -> [u32; MOST_RECORDS]
+    ensures { λ r. ⌜ ((k : ℕ) → k < 256 → k < tables .entry .head .commands → getD r k 0 ≡ owner-of (view (tables .entry)) k) ⌝ }
+{
+    let commands = tables.head.commands;
+    let count = if commands < 256 { commands } else { 256 };
+    work_out(&Owner { tables }, count)
+}
+
 // Both absent, or both the same number.
 fn are_alike(a: Option<u32>, b: Option<u32>) -> bool
     ensures { λ r. ⌜ r ≡ alike a b ⌝ }
@@ -97,12 +106,12 @@ fn are_alike(a: Option<u32>, b: Option<u32>) -> bool
 
 // The children of a state.
 #[derive(Drop)]
-pub(crate) struct ChildOf<'a> {
-    pub(crate) tables: Tables<'a>,
-    pub(crate) s: u32,
+pub struct ChildOf<'a> {
+    pub tables: Tables<'a>,
+    pub s: u32,
 }
 
-impl Test for ChildOf<'_> as ChildOfTest {
+pub impl Test for ChildOf<'_> as ChildOfTest {
     ghost test = { λ x. is-child (view (x .tables)) (x .s) };
 
     fn passes(&self, t: u32) -> bool {

@@ -7,7 +7,7 @@ ghost use lib.ListN.{getD};
 ghost use Rattle.shape.specs.Rank.{ranked};
 
 // No table of a design is longer.
-pub(crate) const MOST_RECORDS: usize = 256;
+pub const MOST_RECORDS: usize = 256;
 
 pub(crate) trait Node {
     ghost node: { Self → (ℕ → ℕ) → ℕ → ℕ };
