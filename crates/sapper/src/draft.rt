@@ -20,19 +20,19 @@ use table::Table;
 const MOST_LINES: u32 = 60_000;
 
 #[derive(Drop)]
-pub struct Draft {
+pub(crate) struct Draft {
     levels: u32,
     rows: Vec<u32>,
-    pub head: Head,
+    pub(crate) head: Head,
     ports: Vec<Port>,
-    pub registers: Vec<Register>,
-    pub states: Vec<State>,
+    pub(crate) registers: Vec<Register>,
+    pub(crate) states: Vec<State>,
     expressions: Vec<Expression>,
     commands: Vec<Command>,
 }
 
 impl Draft {
-    pub fn new(heap: Global) -> Draft {
+    pub(crate) fn new(heap: Global) -> Draft {
         Draft {
             levels: 0,
             rows: Vec::new(heap),
@@ -68,7 +68,7 @@ impl Draft {
     }
 
     // The rows of the lattice, and the lattice as soon as they are read.
-    pub fn read_lattice(&mut self, reader: &mut Reader<'_>) -> Result<Table, DesignFault> {
+    pub(crate) fn read_lattice(&mut self, reader: &mut Reader<'_>) -> Result<Table, DesignFault> {
         let line = reader.read_line()?;
         self.keep(line)?;
         for _ in 0..self.levels {
@@ -79,7 +79,7 @@ impl Draft {
     }
 
     // The head, and as many records as it says.
-    pub fn read_records(&mut self, reader: &mut Reader<'_>) -> Result<(), DesignFault> {
+    pub(crate) fn read_records(&mut self, reader: &mut Reader<'_>) -> Result<(), DesignFault> {
         let line = reader.read_line()?;
         self.keep(line)?;
         for _ in 0..record_count(self.head) {
@@ -90,7 +90,7 @@ impl Draft {
     }
 
     // Cells and inputs, to the end of the text.
-    pub fn read_rest(&mut self, reader: &mut Reader<'_>) -> Result<(), DesignFault> {
+    pub(crate) fn read_rest(&mut self, reader: &mut Reader<'_>) -> Result<(), DesignFault> {
         for _ in 0..MOST_LINES {
             if let Line::End = reader.read_line()? {
                 break;
@@ -99,7 +99,7 @@ impl Draft {
         Ok(())
     }
 
-    pub fn tables(&self) -> Tables<'_> {
+    pub(crate) fn tables(&self) -> Tables<'_> {
         Tables {
             head: self.head,
             ports: self.ports.as_slice(),

@@ -11,7 +11,7 @@ use table::TableLattice;
 const MOST_LEVELS: u32 = 16;
 
 // A line for the lattice, then one for each two levels.
-pub fn lattice(rt: &LibcRuntime, table: &Table) -> Result<(), AnyError> {
+pub(crate) fn lattice(rt: &LibcRuntime, table: &Table) -> Result<(), AnyError> {
     let mut levels = 0u32;
     for code in 0..MOST_LEVELS {
         if table.is_level(code) {
@@ -41,7 +41,7 @@ fn bounds(rt: &LibcRuntime, table: &Table, left: u32, levels: u32) -> Result<(),
 }
 
 // The counts of an accepted design, its cells in all, and how deep its states are.
-pub fn design(rt: &LibcRuntime, draft: &Draft) -> Result<(), AnyError> {
+pub(crate) fn design(rt: &LibcRuntime, draft: &Draft) -> Result<(), AnyError> {
     let head = draft.head;
     let ports = head.ports;
     let registers = head.registers;
