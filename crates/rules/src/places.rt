@@ -1,8 +1,9 @@
 // Rule 6: where commands stand.
 ghost use mathlib.Core.Path.{_≡_};
-ghost use mathlib.Core.Bool.{not};
-ghost use Prim.Native.Nat.{ℕ, _≤_, _<_};
+ghost use mathlib.Core.Bool.{not, cond};
+ghost use Prim.Native.Nat.{ℕ, min, _≤_};
 ghost use denote.Ref.{now};
+ghost use lib.Dec.{ltb};
 ghost use lib.ListN.{getD};
 ghost use Rattle.shape.specs.Shape.{is-first, links-to, links, alike, is-child, owner-node, owner-of};
 ghost use Rattle.rules.specs.Faults.{breach-if};
@@ -85,12 +86,11 @@ impl Node for Owner<'_> as OwnerNode {
     }
 }
 
-// The states of the commands, of the first 256.
+// The states of the commands, of the first 256; 0 past the last command.
 pub fn owners(tables: Tables<'_>) -> [u32; MOST_RECORDS]
-    ensures { λ r. ⌜ ((k : ℕ) → k < 256 → k < tables .entry .head .commands → getD r k 0 ≡ owner-of (view (tables .entry)) k) ⌝ }
+    ensures { λ r. ⌜ ((k : ℕ) → getD r k 0 ≡ cond (ltb k (min (tables .entry .head .commands) 256)) (owner-of (view (tables .entry)) k) 0) ⌝ }
 {
-    let commands = tables.head.commands;
-    let count = if commands < 256 { commands } else { 256 };
+    let count = tables.head.commands.min(256);
     work_out(&Owner { tables }, count)
 }
 
