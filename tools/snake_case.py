@@ -67,17 +67,20 @@ def declared():
     """By file: the names that it declares. And the fields of all records."""
     by_file, fields = {}, set()
     for path in files(".antt"):
-        here, in_record = set(), False
+        here, record_at = set(), None
         for line in blank(read(path), r"--(?=\s|$)").split("\n"):
-            if line and not line[0].isspace():
-                in_record = re.search(r"\brecord\b.*\bwhere\b", line) is not None
+            indent = len(line) - len(line.lstrip())
+            if line.strip() and record_at is not None and indent <= record_at:
+                record_at = None
+            if re.match(r"\s*(pub\s+)?record\b.*\bwhere\b", line):
+                record_at = indent
             m = HEAD.match(line)
             if not m or is_goal(m.group(4)):
                 continue
             if line[0].isspace():
                 if not re.match(r"\s+(pub\s+)?[A-Za-z_]", line):
                     continue
-                if in_record:
+                if record_at is not None and indent > record_at:
                     fields.add(m.group(2))
             here.add(m.group(2))
         by_file[path] = here
@@ -93,6 +96,9 @@ def imports(text):
     mine = {f"Rattle.{c}." for c in crates()}
     for m in USE.finditer(text):
         names = [w.split(" as ")[-1].strip() for w in m.group(2).split(",")]
+        if re.search(r"\.(Goals|Given|Lts)\b", m.group(1)):
+            foreign.update(names)
+            continue
         (own if any(m.group(1).startswith(p) for p in mine) else foreign).update(names)
         if any(m.group(1).startswith(p) for p in mine):
             own.update(w.split(" as ")[0].strip() for w in m.group(2).split(","))
@@ -114,7 +120,7 @@ def turn(path, by_file, fields, said):
             seen.add((name, before == "."))
             continue
         if before == ".":
-            if name not in fields:
+            if name not in fields and respell(name) not in fields:
                 continue
         elif name in kept and name not in here:
             continue

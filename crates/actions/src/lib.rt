@@ -1,4 +1,6 @@
 // What one command does: expressions, raises, and the five kinds of commands.
+#![tactic(auto)]
+
 mod changes;
 mod commands;
 mod expressions;

@@ -1,4 +1,6 @@
 // Acceptance, and the accepted design.
+#![tactic(auto)]
+
 mod acceptance;
 mod accepted;
 mod cells;

@@ -1,4 +1,6 @@
 // The fault of a design, and tests over its records.
+#![tactic(auto)]
+
 mod design;
 mod numbers;
 mod sweeps;

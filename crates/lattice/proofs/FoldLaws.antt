@@ -17,8 +17,8 @@ module _ (m : Joins) (laws : JoinLaws m) where
       let over : m.flows x (m.join start x) ≡ true = laws.bounds.right start x s l.0 in
       let rest : From (m.join start x) xs (fold m.join (m.join start x) xs) = from (m.join start x) xs (laws.order.to_level _ _ up) l.1 in
       record {
-        start_flows = laws.order.transitive _ _ _ up rest.start-flows;
-        above = (laws.order.transitive _ _ _ over rest.start-flows, rest.above);
+        start_flows = laws.order.transitive _ _ _ up rest.start_flows;
+        above = (laws.order.transitive _ _ _ over rest.start_flows, rest.above);
         least = λ c h k. rest.least c (laws.bounds.below start x c h k.0) k.1;
       }
 
@@ -26,7 +26,7 @@ module _ (m : Joins) (laws : JoinLaws m) where
   joined_least levels l =
       let all : From m.bottom levels (joined m levels) = from m.bottom levels laws.bounds.least_level l in
       record {
-        level = laws.order.to_level _ _ all.start-flows;
+        level = laws.order.to_level _ _ all.start_flows;
         above = all.above;
         least = λ c p k. all.least c (laws.bounds.least_flows c p) k;
       }

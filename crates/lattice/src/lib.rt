@@ -1,5 +1,7 @@
 // Lattices of security levels: the interface with its laws, sets of owners, pairs and reversed orders over any lattice,
 // and the join of a list of levels.
+#![tactic(auto)]
+
 ghost use Rattle.std.specs.Prelude.{◌≡◌};
 ghost use Rattle.lattice.specs.Model.{Model, Lawful};
 

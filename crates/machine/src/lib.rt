@@ -1,4 +1,6 @@
 // The run with levels: starts, steps, and what one cycle does.
+#![tactic(auto)]
+
 mod asked;
 mod chains;
 mod detours;

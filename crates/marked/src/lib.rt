@@ -1,4 +1,6 @@
 // Worked cases of the rules, each proved from the definitions that the contracts cite; and tests at the edges.
+#![tactic(auto)]
+
 ghost use Rattle.std.specs.Prelude.{◌≡◌, length};
 ghost use Rattle.marked.specs.Cases.{Marked, cases};
 

@@ -1,4 +1,6 @@
 // Sets of numbers below 32, kept as bits: number t is in the set when bit t is set.
+#![tactic(auto)]
+
 ghost use Rattle.std.specs.Prelude.{◌≡◌};
 ghost use Rattle.lattice.specs.Bit.{bit};
 ghost use Rattle.members.specs.Members.{members, listed, Falls};

@@ -1,4 +1,6 @@
 // What is printed of a run. Each function appends to the text that it is lent.
+#![tactic(auto)]
+
 ghost use Rattle.std.specs.Prelude.{◌≡◌, ◌++◌, string_bytes, OnOk};
 ghost use Rattle.std.specs.List.{flat_map};
 ghost use Rattle.output.specs.Printed.{pair_line, report_line, cell_line, pointer_line, pointer_lines, cycle_text};

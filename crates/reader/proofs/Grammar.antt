@@ -7,7 +7,8 @@ use Rattle.records.specs.declared.Register.{Register}
 use Rattle.records.specs.declared.State.{State}
 use Rattle.records.specs.declared.Expression.{Expression}
 use Rattle.records.specs.declared.Command.{Command}
-use Rattle.records.specs.declared.Labeled.{Labeled}
+use Rattle.records.specs.declared.Cell.{Cell}
+use Rattle.records.specs.declared.Input.{Input}
 use Rattle.records.specs.declared.Mode.{Mode}
 use Rattle.records.specs.declared.Mode.TheVariants.{Enforced}
 use Rattle.records.specs.declared.Operator.{Operator}
@@ -354,7 +355,7 @@ command_kind =
 abbrev pub cell_value : Piece (ℕ × ℕ)
 cell_value = pair (number (codes "level=")) last_number
 
-abbrev pub cell_kind : Kind (ℕ × ℕ) (Labeled ℕ)
+abbrev pub cell_kind : Kind (ℕ × ℕ) Cell
 cell_kind =
     record {
       piece = cell_value;
@@ -372,7 +373,7 @@ cell_kind =
 abbrev pub input_value : Piece (ℕ × ℕ)
 input_value = pair (number (codes "level=")) last_number
 
-abbrev pub input_kind : Kind (ℕ × ℕ) (Labeled ℕ)
+abbrev pub input_kind : Kind (ℕ × ℕ) Input
 input_kind =
     record {
       piece = input_value;

@@ -10,7 +10,8 @@ use Rattle.records.specs.declared.Register.{Register}
 use Rattle.records.specs.declared.State.{State}
 use Rattle.records.specs.declared.Expression.{Expression}
 use Rattle.records.specs.declared.Command.{Command}
-use Rattle.records.specs.declared.Labeled.{Labeled}
+use Rattle.records.specs.declared.Cell.{Cell}
+use Rattle.records.specs.declared.Input.{Input}
 use Rattle.records.specs.declared.Mode.{Mode}
 use Rattle.records.specs.declared.Mode.TheVariants.{Enforced, Dynamic}
 use Rattle.records.specs.declared.Operator.{Operator}
@@ -126,10 +127,10 @@ ExpressionFits e = Number e.a × Optional e.b
 abbrev pub CommandFits : Command → Type 0
 CommandFits c = Optional c.x × Optional c.i × Optional c.e × Optional c.next × Optional c.alt
 
-abbrev pub CellFits : Labeled ℕ → Type 0
+abbrev pub CellFits : Cell → Type 0
 CellFits c = Number c.value × Number c.level
 
-abbrev pub InputFits : Labeled ℕ → Type 0
+abbrev pub InputFits : Input → Type 0
 InputFits i = Number i.value × Number i.level
 
 -- The section in which n lines of a kind are still due; where none is, it is passed over.

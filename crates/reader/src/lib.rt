@@ -1,4 +1,6 @@
 // The reader of a design's text, line by line. `Format` of the specs has the grammar, `Reading` what the reader answers.
+#![tactic(auto)]
+
 ghost use Rattle.std.specs.Prelude.{◌≡◌, MatchBool};
 ghost use Rattle.reader.specs.Pieces.{Strips};
 ghost use Rattle.reader.specs.Reading.{Opens, Answered, Sound, Taken, Exact, cells_so_far, due_key};

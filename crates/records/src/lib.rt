@@ -1,5 +1,7 @@
 // The records of a design as a text gives them, good or bad, and the fault of a line.
 // Records of each kind are numbered from 0; `None` stands where the text has `-`.
+#![tactic(auto)]
+
 mod faults;
 mod numbers;
 
@@ -92,16 +94,24 @@ pub struct Command {
     pub alt: Option<u32>,
 }
 
+#[derive(Clone, Copy, PartialEq, Eq, Debug)]
+pub struct Cell {
+    pub value: u32,
+    pub level: u32,
+}
+
+#[derive(Clone, Copy, PartialEq, Eq, Debug)]
+pub struct Input {
+    pub value: u32,
+    pub level: u32,
+}
+
 // What something holds, and the level of what it holds.
 #[derive(Clone, Copy, PartialEq, Eq, Debug)]
 pub struct Labeled<T> {
     pub value: T,
     pub level: u32,
 }
-
-pub type Cell = Labeled<u32>;
-
-pub type Input = Labeled<u32>;
 
 // The current child of a state, none for a leaf.
 pub type Pointer = Labeled<Option<u32>>;

@@ -1,4 +1,6 @@
 // The rules that an accepted design keeps, and the first that a design breaks.
+#![tactic(auto)]
+
 mod depth;
 mod ends;
 mod levels;

@@ -1,4 +1,6 @@
 // Reads a design and the inputs of its cycles from standard input, and prints what each cycle leaves.
+#![tactic(auto)]
+
 use actions::NO_POINTER;
 use anyhow::anyhow;
 use design::{Accepted, accept};

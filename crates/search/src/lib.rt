@@ -1,4 +1,6 @@
 // The search for the first number that passes a test.
+#![tactic(auto)]
+
 ghost use Rattle.std.specs.Prelude.{◌≡◌, ℕ, ◌*◌, ◌≤◌, Bool};
 ghost use Rattle.search.specs.First.{first};
 ghost use Rattle.search.specs.Sum.{sum_below};

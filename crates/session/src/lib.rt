@@ -1,4 +1,6 @@
 // The run by turns: a cycle is run only by one who holds a turn, and its reports are written out or waived before the next.
+#![tactic(auto)]
+
 mod faults;
 mod numbers;
 mod reports;

@@ -1,4 +1,6 @@
 // The records of a design by their numbers, lent as tables.
+#![tactic(auto)]
+
 mod fields;
 mod reads;
 mod tables;

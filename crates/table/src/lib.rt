@@ -1,4 +1,6 @@
 // A lattice given by a table: row i has bit j set when level i flows to level j.
+#![tactic(auto)]
+
 ghost use Rattle.std.specs.Prelude.{◌≡◌, ◌≤◌, take};
 ghost use Rattle.search.specs.First.{first};
 ghost use Rattle.lattice.specs.Faults.{Answers, refusal};

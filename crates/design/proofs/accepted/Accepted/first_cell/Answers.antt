@@ -31,4 +31,4 @@ returns g c =
     let n : ℕ = d.head.registers in
     let missing : ℕ = c.len-cells.result in
     c.record-at.ensures ∙ ap (λ xs. get_or xs x missing) c.deref.ensures.value
-    ∙ ∥∥₁_elim c.args.self.now.worked (ℕ_set _ _) (λ w. kept_on (cells_below d) n x missing (vec_items f.firsts) w.by-register (λ l. first_past d c.args.self.now.exact.1 x l ∙ sym (c.len-cells.ensures ∙ all_cells d f w)))
+    ∙ ∥∥₁_elim c.args.self.now.worked (ℕ_set _ _) (λ w. kept_on (cells_below d) n x missing (vec_items f.firsts) w.by_register (λ l. first_past d c.args.self.now.exact.1 x l ∙ sym (c.len-cells.ensures ∙ all_cells d f w)))

@@ -12,4 +12,4 @@ pub returns : goal.returns
 returns g c =
     let d : Design = owned c.args.self.now.records in
     c.record-at.ensures ∙ ap (λ xs. get_or xs c.args.s no_state_facts) c.deref.ensures.value
-    ∙ ∥∥₁_elim c.args.self.now.worked (Coded-set the_row.coded _ _) (λ w. kept_at (state_facts d) d.head.states c.args.s no_state_facts _ w.by-state)
+    ∙ ∥∥₁_elim c.args.self.now.worked (Coded-set the_row.coded _ _) (λ w. kept_at (state_facts d) d.head.states c.args.s no_state_facts _ w.by_state)
