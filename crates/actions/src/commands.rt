@@ -11,7 +11,7 @@ use crate::values::cut;
 use crate::ways::{Reach, Way};
 use design::Accepted;
 use lattice::{Lattice, join_all};
-use records::{Cell, Command, Pointer};
+use records::{Command, Labeled, Pointer};
 use shape::{is_enforced, record_at};
 
 // A cell that a set or a tag names: its register, its number, and the level of the index.
@@ -23,7 +23,7 @@ pub(crate) struct Target {
 }
 
 // Past the end there is nothing to write to.
-fn put(cells: &mut [Cell], j: u32, cell: Cell)
+fn put(cells: &mut [Labeled<u32>], j: u32, cell: Labeled<u32>)
     ensures { cells.new ≡ slice_set cells.old j cell }
 {
     if (j as usize) < cells.len() {
@@ -61,7 +61,7 @@ fn check<L: Lattice>(
     k: u32,
     passes: bool,
     alt: Reach,
-    cells: &mut [Cell],
+    cells: &mut [Labeled<u32>],
     pointers: &mut [Pointer],
 ) -> Way
     ensures { done (memory_of cells.new pointers.new) result ≡ checked (L.Lattice.model design.now.lattice).joins (owned design.now.records) k passes alt (λ memory. memory) (memory_of cells.old pointers.old) }
@@ -78,14 +78,14 @@ fn put_dynamic<L: Lattice>(
     design: &Accepted<L>,
     target: Target,
     context: u32,
-    new: Cell,
-    cells: &mut [Cell],
+    new: Labeled<u32>,
+    cells: &mut [Labeled<u32>],
     pointers: &mut [Pointer],
 ) -> Way
     ensures { done (memory_of cells.new pointers.new) result ≡ set_dynamic (L.Lattice.model design.now.lattice).joins (owned design.now.records) target.register target.cell context new (memory_of cells.old pointers.old) }
 {
     let width = design.tables().register(target.register).width;
-    let cell = Cell {
+    let cell = Labeled {
         value: cut(width, new.value),
         level: join_all(design.lattice(), &[context, new.level]),
     };
@@ -97,9 +97,9 @@ fn put_enforced<L: Lattice>(
     design: &Accepted<L>,
     target: Target,
     context: u32,
-    new: Cell,
+    new: Labeled<u32>,
     alt: Reach,
-    cells: &mut [Cell],
+    cells: &mut [Labeled<u32>],
     pointers: &mut [Pointer],
 ) -> Way
     ensures { done (memory_of cells.new pointers.new) result ≡ set_enforced (L.Lattice.model design.now.lattice).joins (owned design.now.records) target.register target.cell context target.level new alt (memory_of cells.old pointers.old) }
@@ -113,13 +113,13 @@ fn put_enforced<L: Lattice>(
     let way = check(design, k, passes, alt, cells, pointers);
     if passes {
         let value = cut(width, new.value);
-        put(cells, target.cell, Cell { value, level });
+        put(cells, target.cell, Labeled { value, level });
     }
     way
 }
 
 // The value where those who see the new level may see it, and else 0.
-fn shown<L: Lattice>(lattice: &L, old: Cell, level: u32) -> u32
+fn shown<L: Lattice>(lattice: &L, old: Labeled<u32>, level: u32) -> u32
     ensures { result ≡ (if (L.Lattice.model lattice.now).joins.flows old.level level then old.value else 0) }
 {
     if lattice.flows(old.level, level) {
@@ -135,7 +135,7 @@ fn retag<L: Lattice>(
     context: u32,
     level: u32,
     alt: Reach,
-    cells: &mut [Cell],
+    cells: &mut [Labeled<u32>],
     pointers: &mut [Pointer],
 ) -> Way
     ensures { done (memory_of cells.new pointers.new) result ≡ retagged (L.Lattice.model design.now.lattice).joins (owned design.now.records) target.register target.cell context target.level level alt (memory_of cells.old pointers.old) }
@@ -148,7 +148,7 @@ fn retag<L: Lattice>(
     let value = shown(lattice, old, level);
     let way = check(design, k, passes, alt, cells, pointers);
     if passes {
-        put(cells, target.cell, Cell { value, level });
+        put(cells, target.cell, Labeled { value, level });
     }
     way
 }
@@ -156,10 +156,10 @@ fn retag<L: Lattice>(
 fn branch<L: Lattice>(
     design: &Accepted<L>,
     context: u32,
-    condition: Cell,
+    condition: Labeled<u32>,
     then_reach: Reach,
     else_reach: Reach,
-    cells: &mut [Cell],
+    cells: &mut [Labeled<u32>],
     pointers: &mut [Pointer],
 ) -> Way
     ensures { done (memory_of cells.new pointers.new) result ≡ branched (L.Lattice.model design.now.lattice).joins (owned design.now.records) context condition then_reach else_reach (memory_of cells.old pointers.old) }
@@ -180,7 +180,7 @@ pub fn run_goto<L: Lattice>(
     target: u32,
     context: u32,
     alt: Reach,
-    cells: &mut [Cell],
+    cells: &mut [Labeled<u32>],
     pointers: &mut [Pointer],
 ) -> Way
     ensures { done (memory_of cells.new pointers.new) result ≡ do_goto (L.Lattice.model design.now.lattice).joins (owned design.now.records) s target context alt (memory_of cells.old pointers.old) }
@@ -199,7 +199,7 @@ pub fn run_fall<L: Lattice>(
     s: u32,
     context: u32,
     here: Reach,
-    cells: &mut [Cell],
+    cells: &mut [Labeled<u32>],
     pointers: &mut [Pointer],
 ) -> Way
     ensures { done (memory_of cells.new pointers.new) result ≡ do_fall (L.Lattice.model design.now.lattice).joins (owned design.now.records) s context here (memory_of cells.old pointers.old) }
@@ -220,7 +220,11 @@ pub fn run_fall<L: Lattice>(
     }
 }
 
-fn target_of<L: Lattice>(board: &Board<'_, '_, L>, command: Command, cells: &[Cell]) -> Target
+fn target_of<L: Lattice>(
+    board: &Board<'_, '_, L>,
+    command: Command,
+    cells: &[Labeled<u32>],
+) -> Target
     ensures { result ≡ target (L.Lattice.model board.now.design.now.lattice).joins (owned board.now.design.now.records) board.now.inputs.now command cells.now }
 {
     let register = command.x.unwrap_or(0);
@@ -237,7 +241,7 @@ pub fn run_set<L: Lattice>(
     command: Command,
     context: u32,
     alt: Reach,
-    cells: &mut [Cell],
+    cells: &mut [Labeled<u32>],
     pointers: &mut [Pointer],
 ) -> Way
     ensures { done (memory_of cells.new pointers.new) result ≡ do_set (L.Lattice.model board.now.design.now.lattice).joins (owned board.now.design.now.records) board.now.inputs.now command context alt (memory_of cells.old pointers.old) }
@@ -257,7 +261,7 @@ pub fn run_tag<L: Lattice>(
     command: Command,
     context: u32,
     alt: Reach,
-    cells: &mut [Cell],
+    cells: &mut [Labeled<u32>],
     pointers: &mut [Pointer],
 ) -> Way
     ensures { done (memory_of cells.new pointers.new) result ≡ do_tag (L.Lattice.model board.now.design.now.lattice).joins (owned board.now.design.now.records) board.now.inputs.now command context alt (memory_of cells.old pointers.old) }
@@ -273,7 +277,7 @@ pub fn run_if<L: Lattice>(
     context: u32,
     then_reach: Reach,
     else_reach: Reach,
-    cells: &mut [Cell],
+    cells: &mut [Labeled<u32>],
     pointers: &mut [Pointer],
 ) -> Way
     ensures { done (memory_of cells.new pointers.new) result ≡ do_if (L.Lattice.model board.now.design.now.lattice).joins (owned board.now.design.now.records) board.now.inputs.now command context then_reach else_reach (memory_of cells.old pointers.old) }

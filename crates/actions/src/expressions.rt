@@ -11,14 +11,14 @@ ghost use Rattle.shape.specs.Shape.{port_at};
 use crate::values::{apply, cut};
 use design::Accepted;
 use lattice::{Lattice, join_all};
-use records::{Cell, Input, Operator};
+use records::{Labeled, Operator};
 use shape::record_at;
 
 // What a cycle reads.
 #[derive(Drop)]
 pub struct Board<'a, 'b, L> {
     pub design: &'a Accepted<L>,
-    pub inputs: &'b [Input],
+    pub inputs: &'b [Labeled<u32>],
 }
 
 // What an expression is: a leaf of one of three kinds, or an operator on two operands.
@@ -41,7 +41,7 @@ fn classify(op: Operator) -> Form
     }
 }
 
-pub const NOTHING: Cell = Cell { value: 0, level: 0 };
+pub const NOTHING: Labeled<u32> = Labeled { value: 0, level: 0 };
 
 // The cell of a register that an index names.
 pub(crate) fn slot<L>(design: &Accepted<L>, x: u32, index: u32) -> u32
@@ -52,23 +52,23 @@ pub(crate) fn slot<L>(design: &Accepted<L>, x: u32, index: u32) -> u32
 }
 
 // A level, joined with that of what is read.
-fn onto<L: Lattice>(board: &Board<'_, '_, L>, level: u32, read: Cell) -> Cell
+fn onto<L: Lattice>(board: &Board<'_, '_, L>, level: u32, read: Labeled<u32>) -> Labeled<u32>
     requires { (L.Lattice.model board.now.design.now.lattice).joins.level level ≡ true }
     ensures { result ≡ labeled read.value ((L.Lattice.model board.now.design.now.lattice).joins.join level read.level) }
 {
-    Cell {
+    Labeled {
         value: read.value,
         level: join_all(board.design.lattice(), &[level, read.level]),
     }
 }
 
 // The input of a port, cut to its width.
-fn input_of<L>(board: &Board<'_, '_, L>, p: u32) -> Cell
+fn input_of<L>(board: &Board<'_, '_, L>, p: u32) -> Labeled<u32>
     ensures { result ≡ labeled (cut_to (port_at (owned board.now.design.now.records) p).width (input_at (owned board.now.design.now.records) board.now.inputs.now [] p).value) (input_at (owned board.now.design.now.records) board.now.inputs.now [] p).level }
 {
     let inputs = board.inputs;
     let input = record_at(inputs, p, NOTHING);
-    Cell {
+    Labeled {
         value: cut(board.design.tables().port(p).width, input.value),
         level: input.level,
     }
@@ -87,21 +87,21 @@ fn named_below(bound: u64, e: Option<u32>) -> Option<u32>
 // numbers than their expression, so this ends.
 fn evaluate_onto<L: Lattice>(
     board: &Board<'_, '_, L>,
-    cells: &[Cell],
+    cells: &[Labeled<u32>],
     bound: u64,
     e: Option<u32>,
     level: u32,
-) -> Cell
+) -> Labeled<u32>
     requires { (L.Lattice.model board.now.design.now.lattice).joins.level level ≡ true }
     ensures value { result ≡ labeled (value_of (owned board.now.design.now.records) board.now.inputs.now cells.now (operand (formula_below (owned board.now.design.now.records) bound) e)) (fold (L.Lattice.model board.now.design.now.lattice).joins.join level (leaf_levels (owned board.now.design.now.records) board.now.inputs.now cells.now (operand (formula_below (owned board.now.design.now.records) bound) e))) }
     ensures level { (L.Lattice.model board.now.design.now.lattice).joins.level result.level ≡ true }
 {
     let Some(n) = named_below(bound, e) else {
-        return Cell { value: 0, level };
+        return Labeled { value: 0, level };
     };
     let expression = board.design.tables().expression(n);
     match classify(expression.op) {
-        Form::Constant => Cell {
+        Form::Constant => Labeled {
             value: expression.a,
             level,
         },
@@ -118,7 +118,7 @@ fn evaluate_onto<L: Lattice>(
         Form::Apply => {
             let left = evaluate_onto(board, cells, n as u64, Some(expression.a), level);
             let right = evaluate_onto(board, cells, n as u64, expression.b, left.level);
-            Cell {
+            Labeled {
                 value: apply(expression.op, left.value, right.value),
                 level: right.level,
             }
@@ -127,7 +127,11 @@ fn evaluate_onto<L: Lattice>(
 }
 
 // The value and the level of an expression; none counts as a constant 0.
-pub(crate) fn evaluate<L: Lattice>(board: &Board<'_, '_, L>, cells: &[Cell], e: Option<u32>) -> Cell
+pub(crate) fn evaluate<L: Lattice>(
+    board: &Board<'_, '_, L>,
+    cells: &[Labeled<u32>],
+    e: Option<u32>,
+) -> Labeled<u32>
     ensures { result ≡ evaluated (owned board.now.design.now.records) board.now.inputs.now cells.now (L.Lattice.model board.now.design.now.lattice).joins (formula_of (owned board.now.design.now.records) e) }
 {
     evaluate_onto(board, cells, 1 << 32, e, board.design.lattice().bottom())

@@ -12,7 +12,7 @@ use crate::expressions::NOTHING;
 use crate::ways::Reach;
 use design::Accepted;
 use lattice::{Lattice, join_all};
-use records::{Cell, Labeled, Pointer};
+use records::{Labeled, Pointer};
 use shape::is_number;
 
 pub const NO_POINTER: Pointer = Pointer {
@@ -36,7 +36,7 @@ struct RaiseCells<'a, L> {
     k: u32,
 }
 
-impl<L: Lattice> Change<Cell> for RaiseCells<'_, L> {
+impl<L: Lattice> Change<Labeled<u32>> for RaiseCells<'_, L> {
     ghost places = { λ x. cells_below (owned x.design.now.records) };
 
     ghost becomes = { λ x t. raised (L.Lattice.model x.design.now.lattice).joins x.k };
@@ -45,7 +45,7 @@ impl<L: Lattice> Change<Cell> for RaiseCells<'_, L> {
         self.design.first_cell(t)
     }
 
-    fn after(&self, t: u32, slot: Cell) -> Cell {
+    fn after(&self, t: u32, slot: Labeled<u32>) -> Labeled<u32> {
         raise_one(self.design.lattice(), self.k, slot)
     }
 }
@@ -75,7 +75,7 @@ pub(crate) fn raise<L: Lattice>(
     design: &Accepted<L>,
     k: u32,
     reach: Reach,
-    cells: &mut [Cell],
+    cells: &mut [Labeled<u32>],
     pointers: &mut [Pointer],
 )
     ensures { memory_of cells.new pointers.new ≡ raise_all (L.Lattice.model design.now.lattice).joins (owned design.now.records) k reach (memory_of cells.old pointers.old) }

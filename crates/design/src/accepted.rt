@@ -42,8 +42,7 @@ impl<L> Accepted<L> {
         }
     }
 
-    // What is worked out of state s; past the last state, nothing.
-    pub fn state_facts(&self, s: u32) -> StateFacts
+    fn of_state(&self, s: u32) -> StateFacts
         ensures { result ≡ state_kept (owned self.now.records) s }
     {
         let none = StateFacts {
@@ -55,8 +54,7 @@ impl<L> Accepted<L> {
         record_at(&self.facts.states, s, none)
     }
 
-    // What is worked out of command k; past the last command, nothing.
-    pub fn command_facts(&self, k: u32) -> CommandFacts
+    fn of_command(&self, k: u32) -> CommandFacts
         ensures { result ≡ command_kept (owned self.now.records) k }
     {
         let none = CommandFacts {
@@ -65,6 +63,66 @@ impl<L> Accepted<L> {
             pointers: 0,
         };
         record_at(&self.facts.commands, k, none)
+    }
+
+    // What is worked out of state s; past the last state, nothing.
+    pub fn state_facts(&self, s: u32) -> StateFacts
+        ensures { result ≡ state_kept (owned self.now.records) s }
+    {
+        self.of_state(s)
+    }
+
+    // What is worked out of command k; past the last command, nothing.
+    pub fn command_facts(&self, k: u32) -> CommandFacts
+        ensures { result ≡ command_kept (owned self.now.records) k }
+    {
+        self.of_command(k)
+    }
+
+    pub fn children(&self, s: u32) -> u32
+        ensures { result ≡ (state_kept (owned self.now.records) s).children }
+    {
+        self.of_state(s).children
+    }
+
+    pub fn descendants(&self, s: u32) -> u32
+        ensures { result ≡ (state_kept (owned self.now.records) s).descendants }
+    {
+        self.of_state(s).descendants
+    }
+
+    pub fn lowest_child(&self, s: u32) -> Option<u32>
+        ensures { result ≡ (state_kept (owned self.now.records) s).lowest_child }
+    {
+        self.of_state(s).lowest_child
+    }
+
+    // The states whose pointers a goto in state s may move.
+    pub fn moved(&self, s: u32) -> u32
+        ensures { result ≡ (state_kept (owned self.now.records) s).moved }
+    {
+        self.of_state(s).moved
+    }
+
+    // The state of a command.
+    pub fn owner(&self, k: u32) -> u32
+        ensures { result ≡ (command_kept (owned self.now.records) k).owner }
+    {
+        self.of_command(k).owner
+    }
+
+    // The registers that the chain from command k on may reach.
+    pub fn register_reach(&self, k: u32) -> u32
+        ensures { result ≡ (command_kept (owned self.now.records) k).registers }
+    {
+        self.of_command(k).registers
+    }
+
+    // The states whose pointers the chain from command k on may reach.
+    pub fn pointer_reach(&self, k: u32) -> u32
+        ensures { result ≡ (command_kept (owned self.now.records) k).pointers }
+    {
+        self.of_command(k).pointers
     }
 
     // The first cell of register x; past the last register, the number of all cells.

@@ -10,7 +10,7 @@ use actions::{NO_POINTER, NOTHING};
 use design::Accepted;
 use faults::{Breach, Kind, Rule, keep};
 use lattice::Lattice;
-use records::{Cell, Input, Pointer};
+use records::{Labeled, Pointer};
 use search::Test;
 use shape::{is_number, record_at};
 
@@ -69,7 +69,7 @@ fn fits(width: u32, value: u32) -> bool
 #[derive(Drop)]
 struct TooWide<'a, 'b, L> {
     design: &'a Accepted<L>,
-    cells: &'b [Cell],
+    cells: &'b [Labeled<u32>],
 }
 
 impl<L> Test for TooWide<'_, '_, L> {
@@ -96,7 +96,7 @@ fn under_floor<L: Lattice>(lattice: &L, floor: Option<u32>, level: u32) -> bool
 #[derive(Drop)]
 struct BadLevel<'a, 'b, L> {
     design: &'a Accepted<L>,
-    cells: &'b [Cell],
+    cells: &'b [Labeled<u32>],
 }
 
 impl<L: Lattice> Test for BadLevel<'_, '_, L> {
@@ -114,7 +114,10 @@ impl<L: Lattice> Test for BadLevel<'_, '_, L> {
 }
 
 // Values first, then levels.
-pub(crate) fn first_bad_cell<L: Lattice>(design: &Accepted<L>, cells: &[Cell]) -> Option<Breach>
+pub(crate) fn first_bad_cell<L: Lattice>(
+    design: &Accepted<L>,
+    cells: &[Labeled<u32>],
+) -> Option<Breach>
     ensures { breach_if result ≡ bad_cells (L.Lattice.model design.now.lattice).joins (owned design.now.records) cells.now }
 {
     let count = cell_count(design);
@@ -166,7 +169,7 @@ impl<L: Lattice> Test for BadPointer<'_, '_, L> {
 #[derive(Drop)]
 struct BadInput<'a, 'b, L> {
     design: &'a Accepted<L>,
-    inputs: &'b [Input],
+    inputs: &'b [Labeled<u32>],
 }
 
 impl<L: Lattice> Test for BadInput<'_, '_, L> {
@@ -184,9 +187,9 @@ impl<L: Lattice> Test for BadInput<'_, '_, L> {
 // Cells, then pointers, then inputs.
 pub(crate) fn first_bad_step<L: Lattice>(
     design: &Accepted<L>,
-    cells: &[Cell],
+    cells: &[Labeled<u32>],
     pointers: &[Pointer],
-    inputs: &[Input],
+    inputs: &[Labeled<u32>],
 ) -> Option<Breach>
     ensures { breach_if result ≡ (bad_cells (L.Lattice.model design.now.lattice).joins (owned design.now.records) cells.now ⊳ bad_pointers (L.Lattice.model design.now.lattice).joins (owned design.now.records) pointers.now ⊳ bad_inputs (L.Lattice.model design.now.lattice).joins (owned design.now.records) inputs.now) }
 {

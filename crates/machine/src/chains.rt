@@ -17,7 +17,7 @@ use actions::{Board, Reach, Way, run_fall, run_goto, run_if, run_set, run_tag};
 use design::Accepted;
 use lattice::Lattice;
 use members::has;
-use records::{Action, Cell, Command, Pointer, Report};
+use records::{Action, Command, Labeled, Pointer, Report};
 use shape::is_if;
 
 // The table that a cycle was lent for its reports, and how many it has made.
@@ -51,7 +51,7 @@ fn act<L: Lattice>(
     board: &Board<'_, '_, L>,
     k: u32,
     context: u32,
-    cells: &mut [Cell],
+    cells: &mut [Labeled<u32>],
     pointers: &mut [Pointer],
 ) -> Way
     ensures { done (memory_of cells.new pointers.new) result ≡ acted (L.Lattice.model board.now.design.now.lattice).joins (owned board.now.design.now.records) board.now.inputs.now (command_at (owned board.now.design.now.records) k).action (command_kept (owned board.now.design.now.records) k).owner (command_at (owned board.now.design.now.records) k) (kept_reach (owned board.now.design.now.records) (command_at (owned board.now.design.now.records) k).alt) (kept_reach (owned board.now.design.now.records) (command_at (owned board.now.design.now.records) k).x) (kept_reach (owned board.now.design.now.records) (command_at (owned board.now.design.now.records) k).i) (kept_reach (owned board.now.design.now.records) (Some k)) context (memory_of cells.old pointers.old) }
@@ -151,7 +151,7 @@ pub(crate) fn run_chain<L: Lattice>(
     board: &Board<'_, '_, L>,
     link: Option<u32>,
     context: u32,
-    cells: &mut [Cell],
+    cells: &mut [Labeled<u32>],
     pointers: &mut [Pointer],
     log: &mut Log<'_>,
 )

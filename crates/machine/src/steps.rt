@@ -13,7 +13,7 @@ use actions::Board;
 use design::Accepted;
 use faults::DesignFault;
 use lattice::Lattice;
-use records::{Cell, Input, Pointer, Report};
+use records::{Labeled, Pointer, Report};
 
 // Each pointer at its state's lowest child, at bottom.
 fn set_pointers<L: Lattice>(design: &Accepted<L>, pointers: &mut [Pointer])
@@ -32,7 +32,7 @@ fn set_pointers<L: Lattice>(design: &Accepted<L>, pointers: &mut [Pointer])
 // Starts a design on the cells it is lent: tests them, and sets the pointers. A refusal leaves all as it was.
 pub fn start<L: Lattice>(
     design: &Accepted<L>,
-    cells: &[Cell],
+    cells: &[Labeled<u32>],
     pointers: &mut [Pointer],
 ) -> Result<(), DesignFault>
     ensures answer { Decides refusal (start_verdict (L.Lattice.model design.now.lattice).joins (owned design.now.records) cells.now (length pointers.old)) (λ _. Unit {0}) result }
@@ -52,8 +52,8 @@ pub fn start<L: Lattice>(
 // One cycle, from the root on; its reports are counted.
 fn run_cycle<L: Lattice>(
     design: &Accepted<L>,
-    inputs: &[Input],
-    cells: &mut [Cell],
+    inputs: &[Labeled<u32>],
+    cells: &mut [Labeled<u32>],
     pointers: &mut [Pointer],
     reports: &mut [Report],
 ) -> u32
@@ -78,8 +78,8 @@ fn run_cycle<L: Lattice>(
 // changes anything; a refusal leaves all as it was.
 pub fn step<L: Lattice>(
     design: &Accepted<L>,
-    inputs: &[Input],
-    cells: &mut [Cell],
+    inputs: &[Labeled<u32>],
+    cells: &mut [Labeled<u32>],
     pointers: &mut [Pointer],
     reports: &mut [Report],
 ) -> Result<u32, DesignFault>

@@ -5,7 +5,7 @@ ghost use Rattle.std.specs.Prelude.{◌≡◌, ◌++◌, string_bytes, OnOk};
 ghost use Rattle.std.specs.List.{flat_map};
 ghost use Rattle.output.specs.Printed.{pair_line, report_line, cell_line, pointer_line, pointer_lines, cycle_text};
 
-use records::{Cell, Pointer, Report};
+use records::{Labeled, Pointer, Report};
 use std::alloc::AllocError;
 
 // A line of two numbers, each after its key.
@@ -30,7 +30,7 @@ fn report_lines(text: &mut String, reports: &[Report]) -> Result<(), AllocError>
     Ok(())
 }
 
-fn cell_lines(text: &mut String, cells: &[Cell]) -> Result<(), AllocError>
+fn cell_lines(text: &mut String, cells: &[Labeled<u32>]) -> Result<(), AllocError>
     ensures { OnOk result (string_bytes text.new ≡ string_bytes text.old ++ flat_map cell_line cells.now) }
 {
     for cell in cells {
@@ -74,7 +74,7 @@ pub fn cycle_text(
     text: &mut String,
     cycle: u32,
     reports: &[Report],
-    cells: &[Cell],
+    cells: &[Labeled<u32>],
     pointers: &[Pointer],
 ) -> Result<(), AllocError>
     ensures { OnOk result (string_bytes text.new ≡ string_bytes text.old ++ cycle_text cycle reports.now cells.now pointers.now) }
@@ -97,8 +97,8 @@ mod tests {
             level: 1,
         }];
         let cells = [
-            Cell { value: 0, level: 0 },
-            Cell {
+            Labeled { value: 0, level: 0 },
+            Labeled {
                 value: u32::MAX,
                 level: 2,
             },

@@ -6,7 +6,7 @@ ghost use Rattle.session.specs.Turns.{Written, the_turn};
 use crate::faults::SessionFault;
 use crate::turns::{Owed, Turn, Unwritten};
 use output::cycle_text;
-use records::{Cell, Pointer, Report};
+use records::{Labeled, Pointer, Report};
 use std::alloc::AllocError;
 
 // The first reports of a table; all of it where there are no more.
@@ -26,7 +26,7 @@ fn append_cycle(
     text: &mut String,
     cycle: u32,
     reports: &[Report],
-    cells: &[Cell],
+    cells: &[Labeled<u32>],
     pointers: &[Pointer],
 ) -> Result<(), AllocError>
     ensures { string_bytes text.new ≡ (if is_ok result then string_bytes text.old ++ cycle_text cycle reports.now cells.now pointers.now else string_bytes text.old) }
@@ -51,7 +51,7 @@ impl Owed {
         text: &mut String,
         cycle: u32,
         reports: &[Report],
-        cells: &[Cell],
+        cells: &[Labeled<u32>],
         pointers: &[Pointer],
     ) -> Result<Turn, Unwritten>
         ensures { Written self (cycle_text cycle (take self.count reports.now) cells.now pointers.now) (string_bytes text.old) (string_bytes text.new) result }

@@ -11,12 +11,12 @@ use crate::faults::SessionFault;
 use crate::turns::{NotTaken, Owed, Turn};
 use design::Accepted;
 use lattice::Lattice;
-use records::{Cell, Input, Pointer, Report};
+use records::{Labeled, Pointer, Report};
 
 // Starts a design on the cells it is lent, and gives the first turn. A refusal leaves all as it was.
 pub fn start<L: Lattice>(
     design: &Accepted<L>,
-    cells: &[Cell],
+    cells: &[Labeled<u32>],
     pointers: &mut [Pointer],
 ) -> Result<Turn, SessionFault>
     ensures answer { Decides refusal (start_verdict (L.Lattice.model design.now.lattice).joins (owned design.now.records) cells.now (length pointers.old)) (λ _. Unit {0}) result }
@@ -32,8 +32,8 @@ impl Turn {
     pub fn step<L: Lattice>(
         self,
         design: &Accepted<L>,
-        inputs: &[Input],
-        cells: &mut [Cell],
+        inputs: &[Labeled<u32>],
+        cells: &mut [Labeled<u32>],
         pointers: &mut [Pointer],
         reports: &mut [Report],
     ) -> Result<Owed, NotTaken>

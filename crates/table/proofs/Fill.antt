@@ -1,5 +1,5 @@
 -- A loop that fills a table of zeros place by place, and the tests of rows as the code puts them. Assumes nothing.
-use Rattle.std.proofs.Common.{◌≡◌, ℕ, ◌+◌, ◌^◌, ◌<◌, ◌≤◌, Bool, true, false, cond, not, ◌||◌, ltb, leb, ◌≢◌, List, length, get_or, take, set, sym, ap, ◌∙◌, ⊎_elim, add-one, arith, length-take, get_or-set_other, get_or-take, get_or-set_same}
+use Rattle.std.proofs.Common.{◌≡◌, ℕ, ◌+◌, ◌^◌, ◌<◌, ◌≤◌, Bool, true, false, cond, not, ◌||◌, ltb, leb, nat_lt, None, [], ◌∷◌, subst, ◌≢◌, List, length, get_or, take, set, sym, ap, ◌∙◌, ⊎_elim, add-one, arith, length-take, get_or-set_other, get_or-take, get_or-set_same}
 use mathlib.Core.Path.{fun_ext}
 use lib.Bits.{bit_or}
 use Rattle.std.proofs.lemmas.List.{get_or_past}
@@ -7,7 +7,8 @@ use Rattle.std.proofs.lemmas.Bool.{cases_eq, cases_lt, lt-ltb, le-ltb, cond-true
 use Rattle.std.proofs.lemmas.Bool.Decides.{nat_tests}
 use Rattle.lattice.specs.Bit.{bit}
 use Rattle.search.specs.First.{first}
-use Rattle.table.specs.Rows.{rows_of, clashes, breaks, column}
+use Rattle.lattice.specs.Faults.{refuse}
+use Rattle.table.specs.Rows.{rows_of, clashes, breaks, column, columns, lacking, lacked, bounds_verdict, order_verdict}
 
 -- f stands at the places below i, and 0 from there on
 abbrev pub Filled : (ℕ → ℕ) → ℕ → List ℕ → Type 0
@@ -48,3 +49,14 @@ rows_taken n xs = fun_ext (λ k. ⊎_elim (inside k) (past k) (cases_lt k n))
 pub column_more : (rows : ℕ → ℕ) (j i all next : ℕ) (b : Bool) → all ≡ column rows j i → b ≡ bit (rows i) j → next ≡ bit_or all (cond b (2 ^ i) 0) → next ≡ column rows j (i + 1)
 unfolding column
 column_more rows j i all next b p q r = r ∙ rw (p, q) (sym (ap (column rows j) (add-one i)))
+
+-- the lowest two levels that lack a bound, in an order
+pub no_bound : (n : ℕ) (rows turned : ℕ → ℕ) (row low high : ℕ) → row ≡ first (breaks n rows) n → n ≤ row → turned ≡ columns n rows → low ≡ lacking n rows turned → low < n → high ≡ lacked n rows turned low → order_verdict n rows ≡ refuse 10 (low ∷ high ∷ [])
+no_bound n rows turned row low high e h t l k g =
+    let whole : nat_lt (first (breaks n rows) n) n ≡ false = le-ltb (first (breaks n rows) n) n (subst (λ (x : ℕ). n ≤ x) e h) in
+    let some : nat_lt (lacking n rows turned) n ≡ true = lt-ltb (lacking n rows turned) n (subst (λ (x : ℕ). x < n) l k) in
+    let place : refuse 10 (lacking n rows turned ∷ lacked n rows turned (lacking n rows turned) ∷ []) ≡ refuse 10 (low ∷ high ∷ []) = cc in
+    cond-false (nat_lt (first (breaks n rows) n) n) (refuse 9 (first (breaks n rows) n ∷ [])) (bounds_verdict n rows (columns n rows)) whole
+    ∙ ap (bounds_verdict n rows) (sym t)
+    ∙ cond-true (nat_lt (lacking n rows turned) n) (refuse 10 (lacking n rows turned ∷ lacked n rows turned (lacking n rows turned) ∷ [])) None some
+    ∙ place

@@ -13,6 +13,6 @@ pub returns : goal.returns
 returns g c =
     let d : Design = owned c.args.design.now.records in
     let m : Joins = (g.L.Lattice.model c.args.design.now.lattice).joins in
-    c.change-each.ensures
+    c.change_each.ensures
     ∙ ap (λ (set : ℕ). change_each no_pointer (λ t. t) (λ t _. pointer_after m d c.args.s c.args.target c.args.context t) (members set) c.args.pointers.now)
-    (ap (λ f. f.moved) c.state-facts.ensures ∙ kept_moved d (formed_parts d (formed_none d c.args.design.now.formed)).1 c.args.design.now.exact.2 c.args.s)
+    (ap (λ f. f.moved) c.state_facts.ensures ∙ kept_moved d (formed_parts d (formed_none d c.args.design.now.formed)).1 c.args.design.now.exact.2 c.args.s)

@@ -7,27 +7,29 @@ use Rattle.design.specs.Verdict.{Exact, well_formed, short_if}
 use Rattle.design.proofs.Kept.{linked_if, sized_if, formed_if, exact_if}
 use Rattle.design.proofs.acceptance.accept.Goals as goal
 
-pub work-out-facts-requires : goal.work-out-facts-requires
-work-out-facts-requires g c =
+pub work_out_facts-requires : goal.work_out_facts-requires
+work_out_facts-requires g c =
     let m : Joins = (g.L.Lattice.model c.args.lattice).joins in
-    let d : Design = view c.cut-tables-tables.result in
-    let kept = linked_if m d (sym c.in-default-first-breach.ensures) in
+    let d : Design = view c.cut_tables-tables.result in
+    let kept = linked_if m d (sym c.in_default-first_breach.ensures) in
     let lent : Design = view c.args.tables in
-    let same = c.cut-tables-tables.ensures in
+    let same = c.cut_tables-tables.ensures in
     record {
       sized = kept.0;
       links = kept.1;
       few = omega (arith, ap (λ (x : Design). length x.registers) same, length-take lent.head.registers lent.registers, ap (λ (x : Design). x.head.registers) same, (sized_if d kept.0).few_registers);
     }
 
-pub invariant-of-result : goal.invariant-of-result
-invariant-of-result g c =
+pub invariant_of-result : goal.invariant_of-result
+invariant_of-result g c =
     let m : Joins = (g.L.Lattice.model c.args.lattice).joins in
-    let d : Design = view c.cut-tables-tables.result in
+    let d : Design = view c.cut_tables-tables.result in
     let lent : Design = view c.args.tables in
-    let copied = sym c.in-ok-records.ensures in
-    let formed = ap is_some (formed_if m d (sym c.in-default-first-breach.ensures)) in
-    let exact = exact_if lent (sym c.first-short.ensures ∙ ap short_if c.in-default.is) in (
-      ∣ subst (λ x. WorkedOut x c.in-ok-facts.facts) copied c.in-ok-facts.ensures ∣₁,
-      (subst (λ x. is_some (well_formed x) ≡ false) copied formed, (subst Exact (sym c.cut-tables-tables.ensures ∙ copied) exact, tt)),
-    )
+    let copied = sym c.in_ok-records.ensures in
+    let formed = ap is_some (formed_if m d (sym c.in_default-first_breach.ensures)) in
+    let exact = exact_if lent (sym c.first_short.ensures ∙ ap short_if c.in_default.is) in
+    record {
+      worked = ∣ subst (λ x. WorkedOut x c.in_ok-facts.facts) copied c.in_ok-facts.ensures ∣₁;
+      formed = subst (λ x. is_some (well_formed x) ≡ false) copied formed;
+      exact = subst Exact (sym c.cut_tables-tables.ensures ∙ copied) exact;
+    }

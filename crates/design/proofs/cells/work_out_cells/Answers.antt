@@ -22,7 +22,7 @@ loop-x-preserved c =
     let wide : c.register.result.cells ≡ (register_at d x).cells = ap (λ r. r.cells) c.register.ensures in
     let far : vec_len c.loop-x.cells ≡ cells_below d x = c.loop-x.cells.ok.0 ∙ ap length c.loop-x.invariant ∙ length-map-range_with_len (register_of d) 0 (cells_below d x) in
     let end : c.len.result + c.register.result.cells ≡ cells_below d (suc x) = omega (arith, cells_more d x, c.len.ensures) in
-    let long : length new ≡ cells_below d (suc x) = sym c.resize.new.self.ok.0 ∙ c.in-ok-resize.ensures.len ∙ end in
-    let places = c.in-ok-resize.ensures.by_index in
+    let long : length new ≡ cells_below d (suc x) = sym c.resize.new.self.ok.0 ∙ c.in_ok-resize.ensures.len ∙ end in
+    let places = c.in_ok-resize.ensures.by_index in
     cells_filled d x old new (omega arith) c.loop-x.invariant long (λ k l. places.0 k 0 (omega arith) (omega arith)) (λ k l q. places.1 k 0 refl (omega arith) (omega arith))
     ∙ ap (λ (n : ℕ). map (register_of d) (range_with_len 0 (cells_below d n))) (sym (add-one x))

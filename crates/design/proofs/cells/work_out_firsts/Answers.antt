@@ -10,8 +10,8 @@ use Rattle.design.proofs.cells.work_out_firsts.Goals as goal
 pub loop-x-init : goal.loop-x-init
 loop-x-init c = (c.new-firsts.ensures.items, sym (cells_none (view c.args.tables)))
 
-pub overflow-add-first : goal.overflow-add-first
-overflow-add-first c =
+pub overflow_add-first : goal.overflow_add-first
+overflow_add-first c =
     let d : Design = view c.args.tables in
     omega (arith, few_cells d c.requires.sized c.loop-x.x (omega arith), ap (λ r. r.cells) c.register-first.ensures)
 
@@ -19,6 +19,6 @@ pub loop-x-preserved : goal.loop-x-preserved
 loop-x-preserved c =
     let d : Design = view c.args.tables in
     let x : ℕ = c.loop-x.x in (
-      c.in-ok-push.ensures.items ∙ ap₂ (λ xs y. xs ++ y ∷ []) c.loop-x.invariant.0 c.loop-x.invariant.1 ∙ sym (map-range_with_len_more (cells_below d) 0 x x (omega arith)),
+      c.in_ok-push.ensures.items ∙ ap₂ (λ xs y. xs ++ y ∷ []) c.loop-x.invariant.0 c.loop-x.invariant.1 ∙ sym (map-range_with_len_more (cells_below d) 0 x x (omega arith)),
       ap₂ (λ (a b : ℕ). a + b) c.loop-x.invariant.1 (ap (λ r. r.cells) c.register-first.ensures) ∙ sym (cells_more d x) ∙ ap (cells_below d) (sym (add-one x)),
     )

@@ -13,17 +13,17 @@ dynamic_within d x e =
     ⊎_elim (λ l. l) (λ l. absurd (both_ways (enforced (register_at d x).mode) e (ap (λ r. enforced r.mode) (get_or_past d.registers x no_register l))))
     (cases_lt x (length d.registers))
 
-dynamic : (c : goal.Else-is-enforced) → enforced (register_at (view c.args.tables) c.in-Some.register).mode ≡ false
-dynamic c = sym (c.if-is-enforced.ensures ∙ ap (λ r. enforced r.mode) c.register.ensures)
+dynamic : (c : goal.Else-is_enforced) → enforced (register_at (view c.args.tables) c.in-Some.register).mode ≡ false
+dynamic c = sym (c.if-is_enforced.ensures ∙ ap (λ r. enforced r.mode) c.register.ensures)
 
-within : (c : goal.Else-is-enforced) → c.in-Some.register < 32
+within : (c : goal.Else-is_enforced) → c.in-Some.register < 32
 within c = omega (arith, c.requires, dynamic_within (view c.args.tables) c.in-Some.register (dynamic c))
 
-pub overflow-shl-result : goal.overflow-shl-result
-overflow-shl-result c = within c
+pub overflow_shl-result : goal.overflow_shl-result
+overflow_shl-result c = within c
 
-pub returns-else-is-enforced : goal.returns-else-is-enforced
-returns-else-is-enforced c =
+pub returns-else-is_enforced : goal.returns-else-is_enforced
+returns-else-is_enforced c =
     let d : Design = view c.args.tables in
     let x : ℕ = c.in-Some.register in
     one_shl x 32 (within c) ∙ sym (ap (set_register d) c.in-Some.is ∙ cond-false (enforced (register_at d x).mode) 0 (2 ^ x) (dynamic c))

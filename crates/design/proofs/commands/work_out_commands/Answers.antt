@@ -12,8 +12,8 @@ use Rattle.design.proofs.commands.work_out_commands.Goals as goal
 owner_at : (n k x y : ℕ) → k < 256 → k < n → x ≡ cond (ltb k (min n 256)) y 0 → x ≡ y
 owner_at n k x y few l h = h ∙ cond-true (ltb k (min n 256)) y 0 (lt-ltb k (min n 256) (omega arith))
 
-pub work-out-reaches-registers-requires : goal.work-out-reaches-registers-requires
-work-out-reaches-registers-requires c =
+pub work_out_reaches-registers-requires : goal.work_out_reaches-registers-requires
+work_out_reaches-registers-requires c =
     record {
       sized = c.requires.sized;
       links = c.requires.links;
@@ -21,8 +21,8 @@ work-out-reaches-registers-requires c =
       owned = λ k l. owner_at c.args.tables.head.commands k _ _ (omega (arith, (sized_if (view c.args.tables) c.requires.sized).few_commands)) l (c.owners-owners.ensures k);
     }
 
-pub work-out-reaches-pointers-requires : goal.work-out-reaches-pointers-requires
-work-out-reaches-pointers-requires c =
+pub work_out_reaches-pointers-requires : goal.work_out_reaches-pointers-requires
+work_out_reaches-pointers-requires c =
     record {
       sized = c.requires.sized;
       links = c.requires.links;
@@ -36,9 +36,9 @@ loop-k-preserved c =
     let k : ℕ = c.loop-k.k in
     let l : k < d.head.commands = omega arith in
     let few : k < 256 = omega (arith, (sized_if d c.requires.sized).few_commands) in
-    let owner = c.record-at.ensures ∙ owner_at d.head.commands k _ _ few l (c.owners-owners.ensures k) in
-    let registers = c.record-at-in-loop-k.ensures ∙ c.work-out-reaches-registers.ensures k l in
-    let pointers = c.record-at-in-loop-k-2.ensures ∙ c.work-out-reaches-pointers.ensures k l in
-    let made : ◌≡◌ {A = CommandFacts} (record { owner = c.record-at.result; registers = c.record-at-in-loop-k.result; pointers = c.record-at-in-loop-k-2.result }) (command_facts d k) = cc in
-    c.in-ok-push.ensures.items ∙ ap₂ (λ xs x. xs ++ x ∷ []) c.loop-k.invariant made
+    let owner = c.record_at.ensures ∙ owner_at d.head.commands k _ _ few l (c.owners-owners.ensures k) in
+    let registers = c.record_at-in-loop-k.ensures ∙ c.work_out_reaches-registers.ensures k l in
+    let pointers = c.record_at-in-loop-k-2.ensures ∙ c.work_out_reaches-pointers.ensures k l in
+    let made : ◌≡◌ {A = CommandFacts} (record { owner = c.record_at.result; registers = c.record_at-in-loop-k.result; pointers = c.record_at-in-loop-k-2.result }) (command_facts d k) = cc in
+    c.in_ok-push.ensures.items ∙ ap₂ (λ xs x. xs ++ x ∷ []) c.loop-k.invariant made
     ∙ sym (map-range_with_len_more (command_facts d) 0 k k (omega arith))

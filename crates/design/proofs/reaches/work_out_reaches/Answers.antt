@@ -24,15 +24,15 @@ loop-s-preserved g c =
     let within : s < d.head.states = omega arith in
     let firsts : Firsts d own (suc s) c.loop-s.firsts = subst (λ i. Firsts d own i c.loop-s.firsts) e c.loop-s.invariant.2 in
     let reached : Reached d own (suc s) c.loop-s.reaches = subst (λ i. Reached d own i c.loop-s.reaches) e c.loop-s.invariant.3 in
-    let below = held false d.head.states (is_below d s) c.work-out-below-below.result c.work-out-below-below.ensures in
-    let falls : c.union-below-falls.result ≡ falls_of d own s =
-    c.union-below-falls.ensures ∙ falls_filled d own c.requires.links s c.work-out-below-below.result c.loop-s.firsts below firsts in
-    let rows = row_filled d own c.requires.links s c.union-below-falls.result c.work-out-row-row.result falls c.work-out-row-row.ensures in
+    let below = held false d.head.states (is_below d s) c.work_out_below-below.result c.work_out_below-below.ensures in
+    let falls : c.union_below-falls.result ≡ falls_of d own s =
+    c.union_below-falls.ensures ∙ falls_filled d own c.requires.links s c.work_out_below-below.result c.loop-s.firsts below firsts in
+    let rows = row_filled d own c.requires.links s c.union_below-falls.result c.work_out_row-row.result falls c.work_out_row-row.ensures in
     let first =
-    c.record-at.ensures ∙ ap (λ t. get_or c.work-out-row-row.result t.first 0) c.state.ensures
+    c.record_at.ensures ∙ ap (λ t. get_or c.work_out_row-row.result t.first 0) c.state.ensures
     ∙ rows (state_at d s).first (first_within d c.requires.links s within) in (
       length-set _ _ _ ∙ c.loop-s.invariant.0,
       search rules,
       firsts_more d own c.requires.links s c.loop-s.firsts _ (omega (arith, sized.few_states)) first firsts,
-      reached_more d own c.requires.links s c.loop-s.reaches c.put-own-reaches.result c.work-out-row-row.result c.args.owners.now sized.few_commands c.put-own-reaches.ensures c.requires.owned rows reached,
+      reached_more d own c.requires.links s c.loop-s.reaches c.put_own-reaches.result c.work_out_row-row.result c.args.owners.now sized.few_commands c.put_own-reaches.ensures c.requires.owned rows reached,
     )

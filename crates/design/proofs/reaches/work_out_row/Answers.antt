@@ -17,7 +17,7 @@ loop-k-preserved g c =
     let node = reach_node (view c.args.tables) own c.args.falls in
     let k : ℕ = c.loop-k.k - 1 in
     let e : c.loop-k.k ≡ suc k = omega arith in
-    let worked = c.command-reach.ensures ∙ ap (command_reach own c.args.falls (λ j. get_or c.loop-k.row j 0)) c.command.ensures in
+    let worked = c.command_reach.ensures ∙ ap (command_reach own c.args.falls (λ j. get_or c.loop-k.row j 0)) c.command.ensures in
     (length-set _ _ _ ∙ c.loop-k.invariant.0, sunk_more 0 n node c.loop-k.row k _ (omega arith) (omega arith) worked (subst (λ i. Sunk 0 n node i c.loop-k.row) e c.loop-k.invariant.1))
 
 pub returns : goal.returns

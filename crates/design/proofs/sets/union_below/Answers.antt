@@ -17,4 +17,4 @@ returns g c =
     let n : ℕ = c.args.count in
     let e = fill_by_all f (take n c.loop-k.sets) n 0 (simp length-take (omega arith)) (λ k l. get_or-take n c.loop-k.sets k 0 l ∙ c.loop-k.invariant.1 k (omega arith)) in
     let whole : n - 0 ≡ n = omega arith in
-    c.union-of.ensures ∙ ap (λ (m : ℕ). union (take m c.loop-k.sets)) whole ∙ ap union e
+    c.union_of.ensures ∙ ap (λ (m : ℕ). union (take m c.loop-k.sets)) whole ∙ ap union e

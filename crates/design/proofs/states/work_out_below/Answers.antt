@@ -9,7 +9,7 @@ loop-t-init c = (refl, risen_none false (below_node (view c.args.tables) c.args.
 
 pub loop-t-preserved : goal.loop-t-preserved
 loop-t-preserved c =
-    let worked = c.is-under.ensures ∙ ap (λ t. under c.args.s (λ j. get_or c.loop-t.below j false) t.parent) c.state.ensures in
+    let worked = c.is_under.ensures ∙ ap (λ t. under c.args.s (λ j. get_or c.loop-t.below j false) t.parent) c.state.ensures in
     (length-set _ _ _ ∙ c.loop-t.invariant.0, risen_more false (below_node (view c.args.tables) c.args.s) c.loop-t.below c.loop-t.t _ (omega arith) worked c.loop-t.invariant.1)
 
 pub returns : goal.returns

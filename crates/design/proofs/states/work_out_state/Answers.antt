@@ -12,13 +12,13 @@ returns c =
     let d : Design = view c.args.tables in
     let s : ℕ = c.args.s in
     let n : ℕ = d.head.states in
-    let worked : ℕ → Bool = λ t. get_or c.work-out-below-below.result t false in
-    let same : (t : ℕ) → t < n → worked t ≡ is_below d s t = held false n (is_below d s) c.work-out-below-below.result c.work-out-below-below.ensures in
-    let children = c.set-where.ensures in
-    let descendants = c.set-where-2.ensures ∙ set_same worked (is_below d s) n same in
-    let lowest = c.lowest-child.ensures in
+    let worked : ℕ → Bool = λ t. get_or c.work_out_below-below.result t false in
+    let same : (t : ℕ) → t < n → worked t ≡ is_below d s t = held false n (is_below d s) c.work_out_below-below.result c.work_out_below-below.ensures in
+    let children = c.set_where.ensures in
+    let descendants = c.set_where-2.ensures ∙ set_same worked (is_below d s) n same in
+    let lowest = c.lowest_child.ensures in
     let moved =
-    c.set-where-3.ensures
+    c.set_where-3.ensures
     ∙ set_same (is_moved d s worked) (is_moved d s (is_below d s)) n
     (λ t l. ap (λ b. has_children d t && ((eqb t s || holds (state_at d s).parent t) || b)) (same t l)) in
     cc

@@ -6,5 +6,5 @@ use Rattle.design.proofs.states.work_out_states.Goals as goal
 
 pub loop-s-preserved : goal.loop-s-preserved
 loop-s-preserved c =
-    c.in-ok-push.ensures.items ∙ ap₂ (λ xs x. xs ++ x ∷ []) c.loop-s.invariant c.work-out-state.ensures
+    c.in_ok-push.ensures.items ∙ ap₂ (λ xs x. xs ++ x ∷ []) c.loop-s.invariant c.work_out_state.ensures
     ∙ sym (map-range_with_len_more (state_facts (view c.args.tables)) 0 c.loop-s.s c.loop-s.s (omega arith))

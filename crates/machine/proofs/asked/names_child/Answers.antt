@@ -19,9 +19,9 @@ not_not false = refl
 pub returns-in-None : goal.returns-in-None
 returns-in-None g c =
     let d : Design = owned c.args.design.now.records in
-    sym (not_not c.is-none.result)
+    sym (not_not c.is_none.result)
     ∙ ap not
-    (sym c.is-none.ensures
-    ∙ ap is_some (ap (λ f. f.lowest_child) c.state-facts.ensures ∙ kept_lowest d (formed_parts d (formed_none d c.args.design.now.formed)).1 c.args.s)
+    (sym c.is_none.ensures
+    ∙ ap is_some (ap (λ f. f.lowest_child) c.state_facts.ensures ∙ kept_lowest d (formed_parts d (formed_none d c.args.design.now.formed)).1 c.args.s)
     ∙ some_of (has_children d c.args.s) (first (is_child d c.args.s) d.head.states))
     ∙ sym (ap (names_child d c.args.s) c.in-None.is)

@@ -16,8 +16,8 @@ use Rattle.machine.proofs.Laying.{count_is, laid_is}
 use Rattle.machine.proofs.Opening.{owner_first}
 use Rattle.machine.proofs.steps.run_cycle.Goals as goal
 
-pub run-chain-requires : goal.run-chain-requires
-run-chain-requires g c =
+pub run_chain-requires : goal.run_chain-requires
+run_chain-requires g c =
     let d : Design = owned c.args.design.now.records in
     let kept = formed_parts d (formed_none d c.args.design.now.formed) in
     let some : 0 < d.head.states = omega (arith, (sized_if d kept.0).some_states) in
@@ -26,15 +26,15 @@ run-chain-requires g c =
     subst (λ k. most_reports d.head.states (chain_of d (Some k)) ≤ d.head.commands) (sym at) (few_reports d kept.0 kept.1 kept.3) in
     record { named = subst (λ k. k < d.head.commands) (sym at) (first_within d kept.1 0 some); room = omega (arith, few, c.requires) }
 
-pub overflow-cast-result : goal.overflow-cast-result
-overflow-cast-result g c =
+pub overflow_cast-result : goal.overflow_cast-result
+overflow_cast-result g c =
     let d : Design = owned c.args.design.now.records in
     let kept = formed_parts d (formed_none d c.args.design.now.formed) in
     let some : 0 < d.head.states = omega (arith, (sized_if d kept.0).some_states) in
     let at : c.state-first.result.first ≡ (state_at d 0).first = ap (λ x. x.first) (c.state-first.ensures ∙ ap (λ y. state_at y 0) c.tables.ensures) in
     let few : most_reports d.head.states (chain_of d (Some c.state-first.result.first)) ≤ d.head.commands =
     subst (λ k. most_reports d.head.states (chain_of d (Some k)) ≤ d.head.commands) (sym at) (few_reports d kept.0 kept.1 kept.3) in
-    record { fits = omega (arith, few, c.run-chain.ensures.few, (sized_if d kept.0).few_commands) }
+    record { fits = omega (arith, few, c.run_chain.ensures.few, (sized_if d kept.0).few_commands) }
 
 pub returns : goal.returns
 returns g c =
@@ -48,15 +48,15 @@ returns g c =
     let inputs : List (Labeled ℕ) = c.args.inputs.now in
     let before : Memory = memory_of c.args.cells.now c.args.pointers.now in
     let bottom : c.bottom-bottom.result ≡ m.bottom = c.bottom-bottom.ensures ∙ ap (λ x. (g.L.Lattice.model x).joins.bottom) c.lattice.ensures in
-    let ran : running (memory_of c.run-chain.new.cells c.run-chain.new.pointers) (logged c.run-chain.new.log) ≡ cycle m d inputs before =
-    c.run-chain.ensures.ran ∙ ap₂ (λ k l. exec m d inputs (chain_of d (Some k)) l (running before [])) at bottom
+    let ran : running (memory_of c.run_chain.new.cells c.run_chain.new.pointers) (logged c.run_chain.new.log) ≡ cycle m d inputs before =
+    c.run_chain.ensures.ran ∙ ap₂ (λ k l. exec m d inputs (chain_of d (Some k)) l (running before [])) at bottom
     ∙ ap (λ s. exec m d inputs (chain_at d s (state_at d 0).first) m.bottom (running before [])) (owner_first d kept.1 0 some) in
     let made = ap (λ (r : Running). r.reports) ran in
-    let leaves = c.run-chain.ensures.leaves in
-    let lies = laid_is c.args.reports.now c.run-chain.new.log.table.now _ c.run-chain.new.log.count leaves.fits made leaves.rest in
+    let leaves = c.run_chain.ensures.leaves in
+    let lies = laid_is c.args.reports.now c.run_chain.new.log.table.now _ c.run_chain.new.log.count leaves.fits made leaves.rest in
     record {
       memory = ap (λ (r : Running). r.memory) ran;
       reports = search (rules, lies, leaves.table);
-      count = count_is c.args.reports.now c.run-chain.new.log.table.now _ c.run-chain.new.log.count leaves.fits made;
-      few = omega (arith, few, c.run-chain.ensures.few);
+      count = count_is c.args.reports.now c.run_chain.new.log.table.now _ c.run_chain.new.log.count leaves.fits made;
+      few = omega (arith, few, c.run_chain.ensures.few);
     }

@@ -15,8 +15,8 @@ loop-s-preserved g c t l =
     let d : Design = owned c.args.design.now.records in
     let s : ℕ = c.loop-s.s in
     let there : s < length c.loop-s.pointers = omega (arith, c.loop-s.auto.pointers, c.requires, c.loop-s-test.true, c.loop-s.auto.s-end, ap (λ (y : Design). y.head.states) c.tables-s-end.ensures) in
-    let new = ap (λ o. labeled o c.bottom-bottom.result) (ap (λ f. f.lowest_child) c.state-facts.ensures ∙ kept_lowest d (formed_parts d (formed_none d c.args.design.now.formed)).1 s) in
-    ⊎_elim (λ e. subst (λ u. get_or (set c.loop-s.pointers s (labeled c.state-facts.result.lowest_child c.bottom-bottom.result)) u no_pointer ≡ labeled (lowest_child d u) c.bottom-bottom.result) (sym e) (get_or-set_same c.loop-s.pointers s _ no_pointer there ∙ new))
+    let new = ap (λ o. labeled o c.bottom-bottom.result) (ap (λ f. f.lowest_child) c.state_facts.ensures ∙ kept_lowest d (formed_parts d (formed_none d c.args.design.now.formed)).1 s) in
+    ⊎_elim (λ e. subst (λ u. get_or (set c.loop-s.pointers s (labeled c.state_facts.result.lowest_child c.bottom-bottom.result)) u no_pointer ≡ labeled (lowest_child d u) c.bottom-bottom.result) (sym e) (get_or-set_same c.loop-s.pointers s _ no_pointer there ∙ new))
     (λ ne. get_or-set_other c.loop-s.pointers s t _ no_pointer ne ∙ c.loop-s.invariant t (omega arith)) (cases_eq t s)
 
 pub returns : goal.returns

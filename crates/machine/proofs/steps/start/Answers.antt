@@ -12,12 +12,12 @@ returns g c =
     let d : Design = owned c.args.design.now.records in
     let m : Joins = (g.L.Lattice.model c.args.design.now.lattice).joins in
     let none : start_verdict m d c.args.cells.now (length c.args.pointers.now) ≡ None =
-    both_none _ _ (sym c.in-default.ensures) (sym c.in-default-first-bad-cell.ensures) in
+    both_none _ _ (sym c.in_default.ensures) (sym c.in_default-first_bad_cell.ensures) in
     let lent = start_lent m d c.args.cells.now (length c.args.pointers.now) none in
     record {
       answer = (none, tt);
-      pointers = c.set-pointers.ensures ∙ sym (ap (λ v. left_by v (first_pointers m d) c.args.pointers.now) none);
+      pointers = c.set_pointers.ensures ∙ sym (ap (λ v. left_by v (first_pointers m d) c.args.pointers.now) none);
       goes_on =
-          λ _. refused_no_more m d (memory_of c.args.cells.now c.set-pointers.new.pointers)
-          (subst (λ p. Good m d (memory_of c.args.cells.now p)) (sym c.set-pointers.ensures) (good_start m (g.met.L.Lattice.lawful c.args.design.now.lattice).joins d c.args.cells.now lent.0 lent.2));
+          λ _. refused_no_more m d (memory_of c.args.cells.now c.set_pointers.new.pointers)
+          (subst (λ p. Good m d (memory_of c.args.cells.now p)) (sym c.set_pointers.ensures) (good_start m (g.met.L.Lattice.lawful c.args.design.now.lattice).joins d c.args.cells.now lent.0 lent.2));
     }

@@ -34,17 +34,17 @@ returns g c =
     let before : Memory = memory_of c.args.cells.now c.args.pointers.now in
     let after : Running = cycle m d c.args.inputs.now before in
     let none : step_verdict m d c.args.cells.now c.args.pointers.now c.args.inputs.now (length c.args.reports.now) ≡ None =
-    all_none _ _ _ _ (sym (c.in-default.ensures ∙ ap (λ x. x ⊳ exactly d.head.ports (length c.args.inputs.now) ⊳ at_least d.head.commands (length c.args.reports.now)) c.wrong-memory-found.ensures)) (sym c.in-default-first-bad-step.ensures) in
+    all_none _ _ _ _ (sym (c.in_default.ensures ∙ ap (λ x. x ⊳ exactly d.head.ports (length c.args.inputs.now) ⊳ at_least d.head.commands (length c.args.reports.now)) c.wrong_memory-found.ensures)) (sym c.in_default-first_bad_step.ensures) in
     let first : ℕ = (state_at d 0).first in
     let own : Owned d (chain_at d 0 first) =
     subst (λ s. Owned d (chain_at d s first)) (owner_first d kept.1 0 some) (owned_chain d kept.0 kept.1 (Some first) (λ k e. subst (λ o. unwrap_or o 0 < d.head.commands) e (first_within d kept.1 0 some))) in
     record {
-      answer = (none, (c.run-cycle.ensures.count, c.run-cycle.ensures.few, whole d kept.1));
-      cells = ap (λ (x : Memory). x.cells) c.run-cycle.ensures.memory ∙ sym (ap (λ v. left_by v after.memory.cells c.args.cells.now) none);
-      pointers = ap (λ (x : Memory). x.pointers) c.run-cycle.ensures.memory ∙ sym (ap (λ v. left_by v after.memory.pointers c.args.pointers.now) none);
-      reports = c.run-cycle.ensures.reports ∙ sym (ap (λ v. left_by v (laid after.reports c.args.reports.now) c.args.reports.now) none);
+      answer = (none, (c.run_cycle.ensures.count, c.run_cycle.ensures.few, whole d kept.1));
+      cells = ap (λ (x : Memory). x.cells) c.run_cycle.ensures.memory ∙ sym (ap (λ v. left_by v after.memory.cells c.args.cells.now) none);
+      pointers = ap (λ (x : Memory). x.pointers) c.run_cycle.ensures.memory ∙ sym (ap (λ v. left_by v after.memory.pointers c.args.pointers.now) none);
+      reports = c.run_cycle.ensures.reports ∙ sym (ap (λ v. left_by v (laid after.reports c.args.reports.now) c.args.reports.now) none);
       goes_on =
-          λ _. refused_no_more m d (memory_of c.run-cycle.new.cells c.run-cycle.new.pointers)
-          (subst (Good m d) (sym c.run-cycle.ensures.memory)
+          λ _. refused_no_more m d (memory_of c.run_cycle.new.cells c.run_cycle.new.pointers)
+          (subst (Good m d) (sym c.run_cycle.ensures.memory)
           (good_cycle m (g.met.L.Lattice.lawful c.args.design.now.lattice).joins d kept.0 kept.1 kept.2 c.args.inputs.now own before (step_lent m d before c.args.inputs.now (length c.args.reports.now) none)));
     }

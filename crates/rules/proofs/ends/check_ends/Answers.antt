@@ -9,7 +9,7 @@ use Rattle.rules.proofs.ends.check_ends.Goals as goal
 pub returns : goal.returns
 returns c =
     let d = view c.args.tables in
-    let e : (λ j. get_or c.work-out-ends-ends.result j false) ≡ ends_of d = fun_ext c.work-out-ends-ends.ensures in
+    let e : (λ j. get_or c.work_out_ends-ends.result j false) ≡ ends_of d = fun_ext c.work_out_ends-ends.ensures in
     c.keep.ensures
     ∙ ap₂ ◌⊳◌
     (c.keep-found.ensures ∙ ap (λ (f : ℕ → Bool). sweep 7 2 d.head.states (λ n. not (f (state_at d n).first))) e)

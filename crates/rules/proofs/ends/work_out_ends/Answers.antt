@@ -13,7 +13,7 @@ loop-k-preserved c =
     let node = ends_node (view c.args.tables) in
     let k : ℕ = c.loop-k.k - 1 in
     let e : c.loop-k.k ≡ suc k = omega arith in
-    let worked = c.is-chain-ending.ensures ∙ ap (chain_ends (λ j. get_or c.loop-k.ends j false)) c.command.ensures in
+    let worked = c.is_chain_ending.ensures ∙ ap (chain_ends (λ j. get_or c.loop-k.ends j false)) c.command.ensures in
     (length-set _ _ _ ∙ c.loop-k.invariant.0, sunk_more false n node c.loop-k.ends k _ (omega arith) (omega arith) worked (subst (λ i. Sunk false n node i c.loop-k.ends) e c.loop-k.invariant.1))
 
 pub returns : goal.returns

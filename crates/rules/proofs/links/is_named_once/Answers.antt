@@ -7,5 +7,5 @@ one_of a b = grind (arith, nat_tests)
 
 pub returns : goal.returns
 returns c =
-    one_of c.sum-below-by-states.result c.sum-below-by-commands.result
-    ∙ ap₂ (λ (a b : ℕ). eqb (a + b) 1) c.sum-below-by-states.ensures.value c.sum-below-by-commands.ensures.value
+    one_of c.sum_below-by_states.result c.sum_below-by_commands.result
+    ∙ ap₂ (λ (a b : ℕ). eqb (a + b) 1) c.sum_below-by_states.ensures.value c.sum_below-by_commands.ensures.value

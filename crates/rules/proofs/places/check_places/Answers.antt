@@ -11,4 +11,4 @@ returns c =
     let d = view c.args.tables in
     c.keep.ensures
     ∙ sweep_same 6 4 d.head.commands _ (λ n. not (command_placed d (owner_of d) n))
-    (λ j l. ap (λ s. not (action_placed d s (command_at d j) (command_at d j).action && (not (given (command_at d j).alt) || has_check d (command_at d j) (command_at d j).action))) (held 0 _ (owner_of d) _ c.work-out-owners.ensures j l))
+    (λ j l. ap (λ s. not (action_placed d s (command_at d j) (command_at d j).action && (not (given (command_at d j).alt) || has_check d (command_at d j) (command_at d j).action))) (held 0 _ (owner_of d) _ c.work_out-owners.ensures j l))

@@ -11,5 +11,5 @@ returns-in-3-to-4 c = width_is c.args.self.now.relation.count 1 (omega arith) (�
 pub returns-in-5-to-8 : goal.returns-in-5-to-8
 returns-in-5-to-8 c = width_is c.args.self.now.relation.count 2 (omega arith) (λ l. omega arith) (omega arith)
 
-pub returns-in-default : goal.returns-in-default
-returns-in-default c = width_is c.args.self.now.relation.count 3 (omega arith) (λ l. omega arith) (omega arith)
+pub returns-in_default : goal.returns-in_default
+returns-in_default c = width_is c.args.self.now.relation.count 3 (omega arith) (λ l. omega arith) (omega arith)

@@ -7,4 +7,4 @@ pub returns : goal.returns
 returns c =
     let r = c.args.relation.now in
     let t = c.args.turned.now in
-    subst (λ m. c.first-below.result ≡ first (λ a. some_below (λ b. unbounded r.count (rows_of r.rows) a b || unbounded m (rows_of t.rows) a b) r.count) r.count) c.requires c.first-below.ensures
+    subst (λ m. c.first_below.result ≡ first (λ a. some_below (λ b. unbounded r.count (rows_of r.rows) a b || unbounded m (rows_of t.rows) a b) r.count) r.count) c.requires c.first_below.ensures

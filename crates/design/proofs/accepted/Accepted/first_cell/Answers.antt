@@ -16,8 +16,8 @@ use Rattle.design.proofs.accepted.Accepted.first_cell.Goals as goal
 all_cells : (d : Design) (f : Facts) → WorkedOut d f → vec_len f.cells ≡ cells_below d d.head.registers
 all_cells d f w = f.cells.ok.0 ∙ ap length w.by_cell ∙ length-map-range_with_len (register_of d) 0 (cells_below d d.head.registers)
 
-pub overflow-cast-cells : goal.overflow-cast-cells
-overflow-cast-cells g c =
+pub overflow_cast-cells : goal.overflow_cast-cells
+overflow_cast-cells g c =
     let d : Design = owned c.args.self.now.records in
     let all : vec_len c.args.self.now.facts.cells ≡ cells_below d d.head.registers = ∥∥₁_elim c.args.self.now.worked (ℕ_set _ _) (all_cells d c.args.self.now.facts) in
     let sized = (formed_parts d (formed_none d c.args.self.now.formed)).0 in
@@ -30,5 +30,5 @@ returns g c =
     let x : ℕ = c.args.x in
     let n : ℕ = d.head.registers in
     let missing : ℕ = c.len-cells.result in
-    c.record-at.ensures ∙ ap (λ xs. get_or xs x missing) c.deref.ensures.value
+    c.record_at.ensures ∙ ap (λ xs. get_or xs x missing) c.deref.ensures.value
     ∙ ∥∥₁_elim c.args.self.now.worked (ℕ_set _ _) (λ w. kept_on (cells_below d) n x missing (vec_items f.firsts) w.by_register (λ l. first_past d c.args.self.now.exact.1 x l ∙ sym (c.len-cells.ensures ∙ all_cells d f w)))

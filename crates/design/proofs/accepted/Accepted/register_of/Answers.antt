@@ -13,5 +13,5 @@ pub returns : goal.returns
 returns g c =
     let d : Design = owned c.args.self.now.records in
     let j : ℕ = c.args.j in
-    c.record-at.ensures ∙ ap (λ xs. get_or xs j d.head.registers) c.deref.ensures.value
+    c.record_at.ensures ∙ ap (λ xs. get_or xs j d.head.registers) c.deref.ensures.value
     ∙ ∥∥₁_elim c.args.self.now.worked (ℕ_set _ _) (λ w. kept_on (register_of d) (cells_below d d.head.registers) j d.head.registers _ w.by_cell (register_past d j))

@@ -5,7 +5,7 @@ use Rattle.lattice.specs.Bit.{bit}
 use Rattle.table.specs.Rows.{column}
 use Rattle.table.proofs.Fill.{column_more}
 use Rattle.table.proofs.relation.Relation.column.Goals as goal
-use Rattle.table.proofs.relation.Relation.column.Goals.{then_has, else_has}
+use Rattle.table.proofs.relation.Relation.column.Goals.{then-has, else-has}
 
 pub loop-i-init : goal.loop-i-init
 unfolding column
@@ -16,6 +16,6 @@ loop-i-preserved c =
     let more = column_more _ c.args.j c.loop-i.i c.loop-i.all c.if-has.all in
     let read = ap (λ x. bit x c.args.j) c.row.ensures in
     elim c.if-has.branch [
-      | then_has w ↦ more true c.loop-i.invariant (w.if-has.ensures ∙ read) (w.all-is ∙ ap (bit_or c.loop-i.all) (one_shl c.loop-i.i 32 (omega arith)))
-      | else_has w ↦ more false c.loop-i.invariant (w.if-has.ensures ∙ read) (w.all-is ∙ sym (or_zero_r c.loop-i.all))
+      | then-has w ↦ more true c.loop-i.invariant (w.if-has.ensures ∙ read) (w.all-is ∙ ap (bit_or c.loop-i.all) (one_shl c.loop-i.i 32 (omega arith)))
+      | else-has w ↦ more false c.loop-i.invariant (w.if-has.ensures ∙ read) (w.all-is ∙ sym (or_zero_r c.loop-i.all))
     ]
