@@ -14,6 +14,7 @@ import re
 import sys
 
 # Names that would fall together with the library's.
+ALIASES = [("AllByRecursion", "All"), ("ContainsAt", "Has")]
 OTHERWISE = {"bit-and": "bit_of_and", "bit-or": "bit_of_or"}
 NAME = re.compile(r"[A-Za-z_][A-Za-z0-9_']*(?:-[A-Za-z0-9_']+)+|[A-Za-z_][A-Za-z0-9_']*")
 USE = re.compile(r"(?:^|\s)(?:ghost )?use ([A-Za-z0-9_.+'-]+)\.\{([^}]*)\}", re.S)
@@ -105,8 +106,16 @@ def imports(text):
     return own, foreign
 
 
+def plain(text):
+    """A word of the library under its own name, and not under the name of another of its words."""
+    for word, name in ALIASES:
+        if f"{word} as {name}" in text:
+            text = re.sub(rf"(?<![\w.]){name}(?![\w'-])", word, text).replace(f"{word} as {word}", word)
+    return text
+
+
 def turn(path, by_file, fields, said):
-    text = read(path)
+    text = plain(read(path))
     is_rt = path.endswith(".rt")
     bare = blank(text, r"//" if is_rt else r"--(?=\s|$)")
     own, foreign = imports(bare)
@@ -146,8 +155,8 @@ def main():
     by_file, fields = declared()
     said, todo = [], []
     for path in files((".antt", ".rt")):
-        old, new = turn(path, by_file, fields, said)
-        if old != new:
+        _, new = turn(path, by_file, fields, said)
+        if read(path) != new:
             todo.append((path, new))
     for line in said:
         print("look: " + line)

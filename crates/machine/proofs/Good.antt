@@ -30,7 +30,7 @@ use Rattle.actions.specs.Memory.{Memory, memory_of, labeled, no_cell, no_pointer
 use Rattle.actions.specs.Values.{cut}
 use Rattle.actions.specs.Actions.{Done, done, raise, admits, context_in, pointer_after, move, checked, set_dynamic, set_enforced, retag, branch, do_goto, do_fall, evaluate, act}
 use Rattle.machine.specs.Cycle.{reach_of, along, noted, exec, cycle}
-use Rattle.machine.specs.Lending.{all_cells, exactly, at_least, start_verdict, step_verdict, first_pointers, bad_inputs, Goes_on, too_wide, under_floor, bad_level, names_child, bad_pointer, bad_cells, bad_pointers}
+use Rattle.machine.specs.Lending.{all_cells, exactly, at_least, start_verdict, step_verdict, first_pointers, bad_inputs, GoesOn, too_wide, under_floor, bad_level, names_child, bad_pointer, bad_cells, bad_pointers}
 use Rattle.machine.proofs.Owned.{Owned}
 
 -- the memory is as a step asks for it
@@ -496,7 +496,7 @@ then_none : (a b : Option Refusal) → b ≡ None → (a ⊳ b) ≡ a
 then_none None b e = e
 then_none (Some r) b e = refl
 
-pub goes_on : (m : Joins) (d : Design) (memory : Memory) → Good m d memory → Goes_on m d memory.cells memory.pointers
+pub goes_on : (m : Joins) (d : Design) (memory : Memory) → Good m d memory → GoesOn m d memory.cells memory.pointers
 goes_on m d memory g inputs reports =
     let ports : Option Refusal = exactly d.head.ports (length inputs) in
     let room : Option Refusal = at_least d.head.commands reports in

@@ -73,8 +73,8 @@ module _ (m : Joins) (d : Design) where
       ⊳ bad_inputs inputs
 
   -- Where the memory is good, a step is refused for its inputs and its report table alone.
-  abbrev pub Goes_on : List (Labeled ℕ) → List (Labeled (Option ℕ)) → Type 0
-  Goes_on cells pointers =
+  abbrev pub GoesOn : List (Labeled ℕ) → List (Labeled (Option ℕ)) → Type 0
+  GoesOn cells pointers =
       (inputs : List (Labeled ℕ)) (reports : ℕ)
       → step_verdict cells pointers inputs reports ≡ (exactly d.head.ports (length inputs) ⊳ at_least d.head.commands reports ⊳ bad_inputs inputs)
 

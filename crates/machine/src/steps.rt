@@ -5,7 +5,7 @@ ghost use Rattle.design.specs.Model.{owned};
 ghost use Rattle.actions.specs.Memory.{memory_of};
 ghost use Rattle.machine.specs.Cycle.{cycle};
 ghost use Rattle.machine.specs.Links.{Whole};
-ghost use Rattle.machine.specs.Lending.{Decides, start_verdict, step_verdict, first_pointers, left_by, laid, Goes_on};
+ghost use Rattle.machine.specs.Lending.{Decides, start_verdict, step_verdict, first_pointers, left_by, laid, GoesOn};
 
 use crate::asked::{first_bad_cell, first_bad_step, wrong_memory, wrong_tables};
 use crate::chains::{Log, run_chain};
@@ -37,7 +37,7 @@ pub fn start<L: Lattice>(
 ) -> Result<(), DesignFault>
     ensures answer { Decides refusal (start_verdict (L.Lattice.model design.now.lattice).joins (owned design.now.records) cells.now (length pointers.old)) (λ _. Unit {0}) result }
     ensures pointers { pointers.new ≡ left_by (start_verdict (L.Lattice.model design.now.lattice).joins (owned design.now.records) cells.now (length pointers.old)) (first_pointers (L.Lattice.model design.now.lattice).joins (owned design.now.records)) pointers.old }
-    ensures goes_on { (start_verdict (L.Lattice.model design.now.lattice).joins (owned design.now.records) cells.now (length pointers.old)) ≡ None → Goes_on (L.Lattice.model design.now.lattice).joins (owned design.now.records) cells.now pointers.new }
+    ensures goes_on { (start_verdict (L.Lattice.model design.now.lattice).joins (owned design.now.records) cells.now (length pointers.old)) ≡ None → GoesOn (L.Lattice.model design.now.lattice).joins (owned design.now.records) cells.now pointers.new }
 {
     if let Some(needed) = wrong_memory(design, cells.len(), pointers.len()) {
         return Err(DesignFault::WrongLength { needed });
@@ -87,7 +87,7 @@ pub fn step<L: Lattice>(
     ensures cells { cells.new ≡ left_by (step_verdict (L.Lattice.model design.now.lattice).joins (owned design.now.records) cells.old pointers.old inputs.now (length reports.old)) (cycle (L.Lattice.model design.now.lattice).joins (owned design.now.records) inputs.now (memory_of cells.old pointers.old)).memory.cells cells.old }
     ensures pointers { pointers.new ≡ left_by (step_verdict (L.Lattice.model design.now.lattice).joins (owned design.now.records) cells.old pointers.old inputs.now (length reports.old)) (cycle (L.Lattice.model design.now.lattice).joins (owned design.now.records) inputs.now (memory_of cells.old pointers.old)).memory.pointers pointers.old }
     ensures reports { reports.new ≡ left_by (step_verdict (L.Lattice.model design.now.lattice).joins (owned design.now.records) cells.old pointers.old inputs.now (length reports.old)) (laid (cycle (L.Lattice.model design.now.lattice).joins (owned design.now.records) inputs.now (memory_of cells.old pointers.old)).reports reports.old) reports.old }
-    ensures goes_on { (step_verdict (L.Lattice.model design.now.lattice).joins (owned design.now.records) cells.old pointers.old inputs.now (length reports.old)) ≡ None → Goes_on (L.Lattice.model design.now.lattice).joins (owned design.now.records) cells.new pointers.new }
+    ensures goes_on { (step_verdict (L.Lattice.model design.now.lattice).joins (owned design.now.records) cells.old pointers.old inputs.now (length reports.old)) ≡ None → GoesOn (L.Lattice.model design.now.lattice).joins (owned design.now.records) cells.new pointers.new }
 {
     let found = wrong_memory(design, cells.len(), pointers.len());
     if let Some(needed) = wrong_tables(design, found, inputs.len(), reports.len()) {

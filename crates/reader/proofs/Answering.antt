@@ -1,9 +1,9 @@
 -- From the pieces of a line to what the reader answers. Assumes nothing.
-use Rattle.std.proofs.Common.{◌≡◌, ℕ, ◌+◌, ◌-◌, ◌*◌, ◌^◌, ◌<◌, ◌≤◌, Bool, true, false, cond, ltb, ◌⊎◌, List, [], ◌∷◌, ◌++◌, length, None, Ok, Err, Result, sym, refl, ap, ◌∙◌, subst, inl, inr, ⊎_elim, append_assoc, zero-le, arith, lit<, length-append, Bor}
+use Rattle.std.proofs.Common.{◌≡◌, ℕ, ◌+◌, ◌-◌, ◌*◌, ◌^◌, ◌<◌, ◌≤◌, true, false, ltb, List, [], ◌++◌, length, None, Ok, Err, Result, sym, refl, ap, ◌∙◌, subst, append_assoc, zero-le, arith, length-append, Bor}
 use Rattle.std.proofs.lemmas.List.{append-nil}
 use Rattle.std.proofs.lemmas.Bool.{both_ways, cond_both, cond-false}
 use Rattle.records.specs.declared.faults.LineFault.{LineFault}
-use Rattle.records.specs.declared.faults.LineFault.TheVariants.{NotDue, TooLong}
+use Rattle.records.specs.declared.faults.LineFault.TheVariants.{NotDue}
 use Rattle.records.specs.declared.Mode.TheVariants.{Enforced}
 use Rattle.records.specs.declared.Operator.TheVariants.{Constant}
 use Rattle.records.specs.declared.Action.TheVariants.{Set}
@@ -13,8 +13,8 @@ use Rattle.reader.specs.declared.sections.Plan.{Plan}
 use Rattle.reader.specs.declared.sections.Section.{Section}
 use Rattle.reader.specs.declared.sections.Step.{Step}
 use Rattle.reader.specs.Format.{key, values, write, Goes, inputs, cells, commands, expressions, states, registers, ports, rows, planned, counted}
-use Rattle.reader.specs.Pieces.{shared, Stops, Leaves, Reads}
-use Rattle.reader.specs.Reading.{ends, Stands, Refused, cells_so_far, Sound, Answers, Answered, due_key, Taken}
+use Rattle.reader.specs.Pieces.{shared, Leaves, Reads}
+use Rattle.reader.specs.Reading.{ends, Refused, cells_so_far, Sound, Answers, Answered, due_key, Taken}
 use Rattle.reader.proofs.Shared.{shared_append, shared_short, shared_none}
 
 -- a line that is due begins with the key that is due

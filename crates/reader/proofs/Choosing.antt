@@ -9,7 +9,7 @@ use Rattle.records.specs.declared.Operator.TheVariants.{Constant, Input, Read, A
 use Rattle.records.specs.declared.Action.{Action}
 use Rattle.records.specs.declared.Action.TheVariants.{Set, Tag, If, Goto, Fall}
 use Rattle.reader.specs.Format.{mode, operator, action}
-use Rattle.reader.specs.Pieces.{shared, Stops, Leaves, Reads, Listed}
+use Rattle.reader.specs.Pieces.{shared, Leaves, Reads, Listed}
 use Rattle.reader.proofs.Sequences.{Apart, Free, shared_parts}
 use Rattle.reader.proofs.Shared.{shared_comm}
 

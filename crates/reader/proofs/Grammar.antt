@@ -1,6 +1,5 @@
 -- The pieces of each kind of line, joined. Assumes nothing.
-use Rattle.std.proofs.Common.{◌≡◌, ℕ, ◌+◌, ◌^◌, ◌<◌, ◌≤◌, ◌⊎◌, List, [], ◌∷◌, ◌++◌, length, IsErrAnd, Some, None, codes, decimal, Option, Result, sym, refl, ap, ◌∙◌, subst, inl, inr, ⊎_elim, append_assoc, suc-le-suc, zero-le, arith, lit<, length-append, Bor}
-use Prim.Native.String.{String}
+use Rattle.std.proofs.Common.{◌≡◌, ℕ, ◌+◌, ◌^◌, ◌<◌, ◌≤◌, ◌⊎◌, List, [], ◌∷◌, ◌++◌, length, IsErrAnd, None, codes, decimal, Option, Result, sym, refl, ap, ◌∙◌, subst, inl, inr, ⊎_elim, suc-le-suc, zero-le, arith, lit<, length-append, Bor}
 use Rattle.records.specs.declared.Head.{Head}
 use Rattle.records.specs.declared.Port.{Port}
 use Rattle.records.specs.declared.Register.{Register}
@@ -19,7 +18,7 @@ use Rattle.reader.specs.declared.sections.Line.{Line}
 use Rattle.reader.specs.declared.sections.Section.{Section}
 use Rattle.reader.specs.declared.sections.Step.{Step}
 use Rattle.reader.specs.Format.{largest, Number, Optional, optional, mode, operator, action, values, Of, HeadFits, PortFits, RegisterFits, StateFits, ExpressionFits, CommandFits, CellFits, InputFits}
-use Rattle.reader.specs.Pieces.{shared, Stops, Leaves, Reads, Parting}
+use Rattle.reader.specs.Pieces.{shared, Leaves, Reads, Parting}
 use Rattle.reader.proofs.Shared.{shared_append}
 use Rattle.reader.proofs.Sequences.{Apart, Free, Both, joint, shared_parts, fails_first, fails_second, reads_both, exit}
 use Rattle.reader.proofs.NumberPieces.{number_free, optional_free}
@@ -40,8 +39,8 @@ Fails p s left = Leaves p.ok p.text s left
 abbrev pub Gives : {V : Type 0} → Piece V → List ℕ → V → List ℕ → Type 0
 Gives p s x r = p.ok x × (s ≡ p.text x ++ r)
 
-module _ {A B : Type 0} (okA : A → Type 0) (a : A → List ℕ) (okB : B → Type 0) (b : B → List ℕ) where
-  pub both_free : Free okA a → Free okB b → Free (Both okA okB) (joint a b)
+module _ {A B : Type 0} (ok_a : A → Type 0) (a : A → List ℕ) (ok_b : B → Type 0) (b : B → List ℕ) where
+  pub both_free : Free ok_a a → Free ok_b b → Free (Both ok_a ok_b) (joint a b)
   both_free f g v w okv okw =
       let long : (x : A) (y : B) → length (a x ++ b y) ≡ length (a x) + length (b y) = λ x y. length-append (a x) (b y) in
       ⊎_elim

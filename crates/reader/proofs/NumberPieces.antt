@@ -1,13 +1,13 @@
 -- A number and what parts it from the next piece, as one piece. Assumes nothing.
-use Rattle.std.proofs.Common.{◌≡◌, ℕ, suc, ◌+◌, ◌^◌, ◌<◌, ◌≤◌, ◌⊎◌, List, [], ◌∷◌, ◌++◌, length, get_or, take, drop, Some, None, decimal, Option, sym, refl, ap, ◌∙◌, subst, inl, inr, ⊎_elim, append_assoc, add-zero, arith, length-append}
-use Rattle.std.specs.Str.Parse.{AllDigits, digits_value}
+use Rattle.std.proofs.Common.{◌≡◌, ℕ, suc, ◌+◌, ◌^◌, ◌<◌, ◌≤◌, ◌⊎◌, List, [], ◌∷◌, ◌++◌, length, get_or, take, drop, Some, None, decimal, sym, refl, ap, ◌∙◌, subst, inl, inr, ⊎_elim, append_assoc, arith, length-append}
+use Rattle.std.specs.Str.Parse.{AllDigits}
 use Rattle.std.proofs.lemmas.Fmt.{decimal_nonempty, digits_decimal, decimal_injective}
 use Rattle.std.proofs.lemmas.List.{length-take-le, take-append-drop, drop_more, drop_all}
 use Rattle.std.proofs.lemmas.Str.Parse.{digit_from_value}
 use Rattle.std.proofs.lemmas.Bool.{cases_eq, cases_lt}
 use Rattle.reader.specs.Format.{largest, Optional, optional}
-use Rattle.reader.specs.Pieces.{shared, Stops, Leaves, Extends, Longest, Parting}
-use Rattle.reader.proofs.Shared.{shared_same, shared_apart, shared_nil, shared_append, shared_comm, shared_le}
+use Rattle.reader.specs.Pieces.{shared, Leaves, Extends, Longest, Parting}
+use Rattle.reader.proofs.Shared.{shared_same, shared_apart, shared_nil, shared_append, shared_comm}
 use Rattle.reader.proofs.Sequences.{Apart, Free, shared_parts}
 use Rattle.reader.proofs.Numbers.{own, digits_after, digit_extends, longest_written}
 

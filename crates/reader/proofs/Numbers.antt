@@ -1,22 +1,22 @@
 -- Decimal numbers, read digit by digit. Assumes nothing.
-use Rattle.std.proofs.Common.{◌≡◌, ℕ, suc, ◌+◌, ◌-◌, ◌*◌, ◌^◌, ◌<◌, ◌≤◌, cond, ltb, ◌⊎◌, List, [], ◌∷◌, ◌++◌, length, get_or, take, drop, decimal, sym, refl, ap, ◌∙◌, subst, inl, inr, ⊎_elim, arith, length-append}
+use Rattle.std.proofs.Common.{◌≡◌, ℕ, suc, ◌+◌, ◌-◌, ◌*◌, ◌^◌, ◌<◌, ◌≤◌, ltb, ◌⊎◌, List, [], ◌∷◌, ◌++◌, length, get_or, take, decimal, sym, refl, ap, ◌∙◌, subst, inl, inr, ⊎_elim, arith, length-append}
 use Rattle.std.specs.Str.Parse.{AllDigits, digits_value, digits_value_after}
-use Rattle.std.specs.Char.{digit_value as digitValue}
+use Rattle.std.specs.Char.{digit_value as value_of_digit}
 use Rattle.std.proofs.lemmas.Int.Digits.{digits_value_more, digits_more}
-use Rattle.std.proofs.lemmas.Fmt.{decimal_digit, decimal_nonempty, decimal-digits_value, digits_decimal, digits_value-decimal, first_decimal}
-use Rattle.std.proofs.lemmas.List.{get_or-take, length-take-le, take-append-drop, drop_more, drop_all}
+use Rattle.std.proofs.lemmas.Fmt.{decimal_digit, decimal-digits_value, digits_decimal, digits_value-decimal, first_decimal}
+use Rattle.std.proofs.lemmas.List.{get_or-take, length-take-le}
 use Rattle.std.proofs.lemmas.Str.Parse.{IsNumeralModel, numerals_by_value, tells_digits, digit_from_value}
 use Rattle.std.proofs.lemmas.Bool.{cond-true, cond-false, lt-ltb, le-ltb, cases_eq}
 use Rattle.reader.specs.Pieces.{Extends, Longest}
 
-pub digit_value : (c : ℕ) → 48 ≤ c → c ≤ 57 → digitValue c ≡ c - 48
+pub digit_value : (c : ℕ) → 48 ≤ c → c ≤ 57 → value_of_digit c ≡ c - 48
 digit_value c low high = cond-false (ltb c 48) _ _ (le-ltb c 48 low) ∙ cond-true (ltb c 58) _ _ (lt-ltb c 58 (omega arith))
 
 -- a number with one digit more
 pub grow : (s : List ℕ) (n v limit : ℕ) → n < length s → AllDigits 10 (take n s) → digits_value 10 (take n s) ≡ v → Extends v n (get_or s n 0) limit → AllDigits 10 (take (n + 1) s) × (digits_value 10 (take (n + 1) s) ≡ v * 10 + (get_or s n 0 - 48))
 grow s n v limit h ds e x =
-    let d : digitValue (get_or s n 0) ≡ get_or s n 0 - 48 = digit_value (get_or s n 0) x.low x.high in
-    (digits_more 10 s n h ds (omega (arith, x.low, x.high)), digits_value_more 10 s n h ∙ ap (λ a. a * 10 + digitValue (get_or s n 0)) e ∙ ap (λ a. v * 10 + a) d)
+    let d : value_of_digit (get_or s n 0) ≡ get_or s n 0 - 48 = digit_value (get_or s n 0) x.low x.high in
+    (digits_more 10 s n h ds (omega (arith, x.low, x.high)), digits_value_more 10 s n h ∙ ap (λ a. a * 10 + value_of_digit (get_or s n 0)) e ∙ ap (λ a. v * 10 + a) d)
 
 -- after a leading 0 no digit comes
 pub lead_more : (s : List ℕ) (n v limit w : ℕ) → Extends v n (get_or s n 0) limit → w ≡ v * 10 + (get_or s n 0 - 48) → (n ≡ 0 → v ≡ 0) → (get_or s 0 0 ≡ 48 → (v ≡ 0) × (n ≤ 1)) → get_or s 0 0 ≡ 48 → (w ≡ 0) × (n + 1 ≤ 1)
@@ -27,11 +27,11 @@ lead_more s n v limit w x e start lead first =
 
 value_after_append : (n : ℕ) (a b : List ℕ) → digits_value_after 10 n (a ++ b) ≡ digits_value_after 10 (digits_value_after 10 n a) b
 value_after_append n [] b = refl
-value_after_append n (c ∷ a) b = value_after_append (n * 10 + digitValue c) a b
+value_after_append n (c ∷ a) b = value_after_append (n * 10 + value_of_digit c) a b
 
 value_after_ge : (n : ℕ) (a : List ℕ) → n ≤ digits_value_after 10 n a
 value_after_ge n [] = omega arith
-value_after_ge n (c ∷ a) = omega (arith, value_after_ge (n * 10 + digitValue c) a)
+value_after_ge n (c ∷ a) = omega (arith, value_after_ge (n * 10 + value_of_digit c) a)
 
 pub digits_after : (a b : List ℕ) → AllDigits 10 (a ++ b) → AllDigits 10 b
 digits_after [] b h = h
@@ -46,8 +46,8 @@ zero_alone v [] t e h is z = refl
 zero_alone v (x ∷ p) t e h is z =
     let ds : AllDigits 10 (x ∷ (p ++ (e ∷ t))) = subst (AllDigits 10) is (digits_decimal own v h) in
     let r = digit_from_value x ds.0 in
-    let d : digitValue x ≡ x - 48 = digit_value x r.0 r.1 in
-    let zero : x ≡ 48 = omega (arith, value_after_ge (0 * 10 + digitValue x) p) in
+    let d : value_of_digit x ≡ x - 48 = digit_value x r.0 r.1 in
+    let zero : x ≡ 48 = omega (arith, value_after_ge (0 * 10 + value_of_digit x) p) in
     let first : get_or (decimal v) 0 0 ≡ 48 = ap (λ l. get_or l 0 0) is ∙ zero in
     ⊎_elim
     (λ none.
@@ -65,13 +65,13 @@ pub digit_extends : (v limit : ℕ) (p t : List ℕ) (e : ℕ) → v ≤ limit �
 digit_extends v limit p t e low h is =
     let ds : AllDigits 10 (p ++ (e ∷ t)) = subst (AllDigits 10) is (digits_decimal own v h) in
     let r = digit_from_value e (digits_after p (e ∷ t) ds).0 in
-    let d : digitValue e ≡ e - 48 = digit_value e r.0 r.1 in
+    let d : value_of_digit e ≡ e - 48 = digit_value e r.0 r.1 in
     let whole : digits_value_after 10 (digits_value 10 p) (e ∷ t) ≡ v = sym (value_after_append 0 p (e ∷ t)) ∙ ap (digits_value 10) (sym is) ∙ digits_value-decimal own v h in
     record {
       low = r.0;
       high = r.1;
       lead = zero_alone v p t e h is;
-      within = omega (arith, value_after_ge (digits_value 10 p * 10 + digitValue e) t);
+      within = omega (arith, value_after_ge (digits_value 10 p * 10 + value_of_digit e) t);
     }
 
 -- the longest number is written as the text has it

@@ -1,16 +1,15 @@
 -- Lines read one after another. Assumes nothing.
-use Rattle.std.proofs.Common.{◌≡◌, ℕ, ◌+◌, ◌-◌, ◌<◌, ◌≤◌, true, false, List, [], ◌∷◌, ◌++◌, length, IsErrAnd, Ok, Err, Result, sym, refl, ap, ◌∙◌, subst, append_assoc, arith, lit<, length-append}
+use Rattle.std.proofs.Common.{◌≡◌, ℕ, ◌+◌, ◌-◌, ◌<◌, true, false, List, [], ◌∷◌, ◌++◌, length, IsErrAnd, Ok, Err, Result, sym, refl, ap, ◌∙◌, subst, append_assoc, arith, lit<, length-append}
 use Rattle.std.specs.List.{flat_map}
 use Rattle.std.proofs.lemmas.List.{append-nil, length_push}
 use Rattle.std.proofs.lemmas.Result.{err_from_is_err_and}
-use Rattle.std.proofs.lemmas.Bool.{both_ways, cond-true, cond-false}
+use Rattle.std.proofs.lemmas.Bool.{both_ways, cond-false}
 use Rattle.records.specs.declared.faults.LineFault.{LineFault}
-use Rattle.records.specs.declared.faults.LineFault.TheVariants.{NotDue, TooLong}
 use Rattle.reader.specs.declared.Reader.{Reader}
 use Rattle.reader.specs.declared.sections.Line.{Line}
 use Rattle.reader.specs.declared.sections.Section.{Section}
 use Rattle.reader.specs.Format.{key, values, write, Goes}
-use Rattle.reader.specs.Reading.{ends, most_bytes, Sound, Opens, Answers, Run, Run.none, Run.more, Whole, Exact}
+use Rattle.reader.specs.Reading.{ends, Opens, Answers, Run, Run.none, Run.more, Whole, Exact}
 use Rattle.reader.proofs.Unambiguous.{exact}
 
 -- a reader has come through lines of the text to where it is

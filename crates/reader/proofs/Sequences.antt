@@ -1,8 +1,8 @@
 -- Pieces read one after another. Assumes nothing.
-use Rattle.std.proofs.Common.{◌≡◌, ℕ, suc, ◌+◌, ◌<◌, ◌≤◌, ◌⊎◌, List, [], ◌∷◌, ◌++◌, length, IsErrAnd, Ok, Err, Result, sym, refl, ap, ◌∙◌, subst, inl, inr, ⊎_elim, append_assoc, arith, length-append, Bor}
+use Rattle.std.proofs.Common.{◌≡◌, ℕ, ◌+◌, ◌<◌, ◌≤◌, ◌⊎◌, List, ◌++◌, length, IsErrAnd, Ok, Err, Result, sym, ap, ◌∙◌, subst, ⊎_elim, append_assoc, arith, length-append, Bor}
 use Rattle.std.proofs.lemmas.Result.{err_from_is_err_and}
-use Rattle.reader.specs.Pieces.{shared, Stops, Leaves, Reads, Strips}
-use Rattle.reader.proofs.Shared.{shared_append, shared_short, shared_short_right, shared_le}
+use Rattle.reader.specs.Pieces.{shared, Leaves, Reads, Strips}
+use Rattle.reader.proofs.Shared.{shared_append, shared_short, shared_short_right}
 
 -- two texts, of which neither begins the other
 abbrev pub Apart : List ℕ → List ℕ → Type 0
@@ -18,14 +18,14 @@ shared_parts a b c r h =
     shared_short a c (b ++ r) (omega (arith, e, h.0)) ∙ e
 
 abbrev pub Both : {A B : Type 0} → (A → Type 0) → (B → Type 0) → A × B → Type 0
-Both okA okB p = okA p.0 × okB p.1
+Both ok_a ok_b p = ok_a p.0 × ok_b p.1
 
 abbrev pub joint : {A B : Type 0} → (A → List ℕ) → (B → List ℕ) → A × B → List ℕ
 joint a b p = a p.0 ++ b p.1
 
-module _ {A B : Type 0} (okA : A → Type 0) (a : A → List ℕ) (okB : B → Type 0) (b : B → List ℕ) where
+module _ {A B : Type 0} (ok_a : A → Type 0) (a : A → List ℕ) (ok_b : B → Type 0) (b : B → List ℕ) where
   -- the first piece fails
-  pub fails_first : (s : List ℕ) (left : ℕ) → Leaves okA a s left → (y : B) → okB y → Leaves (Both okA okB) (joint a b) s left
+  pub fails_first : (s : List ℕ) (left : ℕ) → Leaves ok_a a s left → (y : B) → ok_b y → Leaves (Both ok_a ok_b) (joint a b) s left
   fails_first s left h y oky =
       let st = h.2 in (
         h.0,
@@ -38,10 +38,10 @@ module _ {A B : Type 0} (okA : A → Type 0) (a : A → List ℕ) (okB : B → T
       )
 
   -- the second piece fails
-  pub fails_second : (s : List ℕ) (left : ℕ) → Free okA a → (x : A) → okA x → (r : List ℕ) → s ≡ a x ++ r → Leaves okB b r left → Leaves (Both okA okB) (joint a b) s left
+  pub fails_second : (s : List ℕ) (left : ℕ) → Free ok_a a → (x : A) → ok_a x → (r : List ℕ) → s ≡ a x ++ r → Leaves ok_b b r left → Leaves (Both ok_a ok_b) (joint a b) s left
   fails_second s left free x okx r is h =
       let st = h.2 in
-      let at : (p : A × B) → Both okA okB p → (shared (joint a b p) s ≤ length (a x) + h.0) × (shared (joint a b p) s < length (joint a b p)) =
+      let at : (p : A × B) → Both ok_a ok_b p → (shared (joint a b p) s ≤ length (a x) + h.0) × (shared (joint a b p) s < length (joint a b p)) =
       λ p ok.
       subst (λ u. (shared (joint a b p) u ≤ length (a x) + h.0) × (shared (joint a b p) u < length (joint a b p))) (sym is)
       (⊎_elim

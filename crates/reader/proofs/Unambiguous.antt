@@ -1,5 +1,5 @@
 -- No text can be read in two ways, so that a text that is as due is never refused. Assumes nothing.
-use Rattle.std.proofs.Common.{◌≡◌, ℕ, suc, ◌+◌, ◌-◌, ◌<◌, ◌≤◌, true, false, ◌⊎◌, List, [], ◌∷◌, ◌++◌, length, Ok, Err, Result, sym, refl, ap, ◌∙◌, subst, inl, inr, ⊎_elim, append_assoc, arith}
+use Rattle.std.proofs.Common.{◌≡◌, ℕ, suc, ◌-◌, false, ◌⊎◌, List, [], ◌∷◌, ◌++◌, length, Ok, Err, Result, sym, refl, ap, ◌∙◌, subst, inl, ⊎_elim, append_assoc, arith}
 use Rattle.std.specs.List.{flat_map}
 use Rattle.std.proofs.lemmas.List.{append_cancel_left}
 use Rattle.std.proofs.lemmas.Bool.{both_ways}
@@ -10,7 +10,7 @@ use Rattle.reader.specs.declared.sections.Section.{Section}
 use Rattle.reader.specs.declared.sections.Step.{Step}
 use Rattle.reader.specs.Format.{key, values, write, Goes, inputs, cells, commands, expressions, states, registers, ports, rows, planned, counted}
 use Rattle.reader.specs.Pieces.{shared}
-use Rattle.reader.specs.Reading.{ends, due_key, Stands, Refused, Run, Run.none, Run.more, Whole, Exact}
+use Rattle.reader.specs.Reading.{ends, Refused, Run, Run.none, Run.more, Whole, Exact}
 use Rattle.reader.proofs.Shared.{shared_append}
 use Rattle.reader.proofs.Sequences.{Apart, shared_parts}
 use Rattle.reader.proofs.Grammar.{line_free, levels_kind, row_kind, head_kind, port_kind, register_kind, state_kind, expression_kind, command_kind, cell_kind, input_kind}

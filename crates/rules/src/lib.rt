@@ -10,6 +10,7 @@ mod ranks;
 mod sizes;
 mod verdict;
 
+pub use faults::{Breach, DesignFault, Kind, Rule};
 pub use places::{ChildOf, owners};
 pub use ranks::MOST_RECORDS;
 pub use verdict::first_breach;

@@ -1,10 +1,13 @@
 // The lines of a text as they are read. The tables grow with the lines, so that a count out of range is acceptance's to refuse.
-use faults::DesignFault;
 use reader::{Line, Reader};
-use records::{Cell, Command, Expression, Head, Input, Port, Register, State};
+use records::{Command, Expression, Head, Port, Register, State};
+use rules::DesignFault;
 use shape::Tables;
 use std::alloc::Global;
 use table::Table;
+
+// No text has more lines.
+const MOST_LINES: u32 = 60_000;
 
 #[derive(Drop)]
 pub(crate) struct Draft {
@@ -12,13 +15,10 @@ pub(crate) struct Draft {
     rows: Vec<u32>,
     pub(crate) head: Head,
     ports: Vec<Port>,
-    registers: Vec<Register>,
-    states: Vec<State>,
+    pub(crate) registers: Vec<Register>,
+    pub(crate) states: Vec<State>,
     expressions: Vec<Expression>,
     commands: Vec<Command>,
-    pub(crate) cells: Vec<Cell>,
-    // The inputs of one cycle.
-    pub(crate) inputs: Vec<Input>,
 }
 
 impl Draft {
@@ -39,8 +39,6 @@ impl Draft {
             states: Vec::new(heap),
             expressions: Vec::new(heap),
             commands: Vec::new(heap),
-            cells: Vec::new(heap),
-            inputs: Vec::new(heap),
         }
     }
 
@@ -54,47 +52,41 @@ impl Draft {
             Line::State(state) => self.states.push(state)?,
             Line::Expression(expression) => self.expressions.push(expression)?,
             Line::Command(command) => self.commands.push(command)?,
-            Line::Cell(cell) => self.cells.push(cell)?,
-            Line::Input(input) => self.inputs.push(input)?,
-            Line::End => {}
-        }
-        Ok(())
-    }
-
-    fn read_lines(&mut self, reader: &mut Reader<'_>, count: u64) -> Result<(), DesignFault> {
-        for _ in 0..count {
-            let line = reader.read_line()?;
-            self.keep(line)?;
+            _ => {}
         }
         Ok(())
     }
 
     // The rows of the lattice, and the lattice as soon as they are read.
     pub(crate) fn read_lattice(&mut self, reader: &mut Reader<'_>) -> Result<Table, DesignFault> {
-        self.read_lines(reader, 1)?;
-        self.read_lines(reader, u64::from(self.levels))?;
+        let line = reader.read_line()?;
+        self.keep(line)?;
+        for _ in 0..self.levels {
+            let line = reader.read_line()?;
+            self.keep(line)?;
+        }
         Ok(Table::new(self.levels, self.rows.as_slice())?)
     }
 
     // The head, and as many records as it says.
     pub(crate) fn read_records(&mut self, reader: &mut Reader<'_>) -> Result<(), DesignFault> {
-        self.read_lines(reader, 1)?;
-        self.read_lines(reader, record_count(self.head))
-    }
-
-    // The cells of all registers.
-    pub(crate) fn read_cells(&mut self, reader: &mut Reader<'_>) -> Result<(), DesignFault> {
-        let mut count = 0u64;
-        for register in self.registers.iter() {
-            count = count.saturating_add(u64::from(register.cells));
+        let line = reader.read_line()?;
+        self.keep(line)?;
+        for _ in 0..record_count(self.head) {
+            let line = reader.read_line()?;
+            self.keep(line)?;
         }
-        self.read_lines(reader, count)
+        Ok(())
     }
 
-    // The inputs of a cycle, one for each port.
-    pub(crate) fn read_inputs(&mut self, reader: &mut Reader<'_>) -> Result<(), DesignFault> {
-        self.inputs.clear();
-        self.read_lines(reader, u64::from(self.head.ports))
+    // Cells and inputs, to the end of the text.
+    pub(crate) fn read_rest(&mut self, reader: &mut Reader<'_>) -> Result<(), DesignFault> {
+        for _ in 0..MOST_LINES {
+            if let Line::End = reader.read_line()? {
+                break;
+            }
+        }
+        Ok(())
     }
 
     pub(crate) fn tables(&self) -> Tables<'_> {

@@ -31,7 +31,7 @@ fn append_cycle(
 ) -> Result<(), AllocError>
     ensures { string_bytes text.new ≡ (if is_ok result then string_bytes text.old ++ cycle_text cycle reports.now cells.now pointers.now else string_bytes text.old) }
 {
-    let mut printed = String::new(text.allocator());
+    let mut printed = String::new(*text.allocator());
     cycle_text(&mut printed, cycle, reports, cells, pointers)?;
     text.push_str(&printed)
 }

@@ -3,7 +3,7 @@ ghost use Rattle.std.specs.Prelude.{◌≡◌, ◌≤◌, length, None};
 ghost use Rattle.design.specs.Model.{owned};
 ghost use Rattle.actions.specs.Memory.{memory_of};
 ghost use Rattle.machine.specs.Cycle.{cycle};
-ghost use Rattle.machine.specs.Lending.{Decides, start_verdict, step_verdict, first_pointers, left_by, laid, Goes_on};
+ghost use Rattle.machine.specs.Lending.{Decides, start_verdict, step_verdict, first_pointers, left_by, laid, GoesOn};
 ghost use Rattle.session.specs.Faults.{refusal};
 ghost use Rattle.session.specs.Turns.{untaken};
 
@@ -21,7 +21,7 @@ pub fn start<L: Lattice>(
 ) -> Result<Turn, SessionFault>
     ensures answer { Decides refusal (start_verdict (L.Lattice.model design.now.lattice).joins (owned design.now.records) cells.now (length pointers.old)) (λ _. Unit {0}) result }
     ensures pointers { pointers.new ≡ left_by (start_verdict (L.Lattice.model design.now.lattice).joins (owned design.now.records) cells.now (length pointers.old)) (first_pointers (L.Lattice.model design.now.lattice).joins (owned design.now.records)) pointers.old }
-    ensures goes_on { (start_verdict (L.Lattice.model design.now.lattice).joins (owned design.now.records) cells.now (length pointers.old)) ≡ None → Goes_on (L.Lattice.model design.now.lattice).joins (owned design.now.records) cells.now pointers.new }
+    ensures goes_on { (start_verdict (L.Lattice.model design.now.lattice).joins (owned design.now.records) cells.now (length pointers.old)) ≡ None → GoesOn (L.Lattice.model design.now.lattice).joins (owned design.now.records) cells.now pointers.new }
 {
     machine::start(design, cells, pointers)?;
     Ok(Turn { given: () })
@@ -41,7 +41,7 @@ impl Turn {
         ensures cells { cells.new ≡ left_by (step_verdict (L.Lattice.model design.now.lattice).joins (owned design.now.records) cells.old pointers.old inputs.now (length reports.old)) (cycle (L.Lattice.model design.now.lattice).joins (owned design.now.records) inputs.now (memory_of cells.old pointers.old)).memory.cells cells.old }
         ensures pointers { pointers.new ≡ left_by (step_verdict (L.Lattice.model design.now.lattice).joins (owned design.now.records) cells.old pointers.old inputs.now (length reports.old)) (cycle (L.Lattice.model design.now.lattice).joins (owned design.now.records) inputs.now (memory_of cells.old pointers.old)).memory.pointers pointers.old }
         ensures reports { reports.new ≡ left_by (step_verdict (L.Lattice.model design.now.lattice).joins (owned design.now.records) cells.old pointers.old inputs.now (length reports.old)) (laid (cycle (L.Lattice.model design.now.lattice).joins (owned design.now.records) inputs.now (memory_of cells.old pointers.old)).reports reports.old) reports.old }
-        ensures goes_on { (step_verdict (L.Lattice.model design.now.lattice).joins (owned design.now.records) cells.old pointers.old inputs.now (length reports.old)) ≡ None → Goes_on (L.Lattice.model design.now.lattice).joins (owned design.now.records) cells.new pointers.new }
+        ensures goes_on { (step_verdict (L.Lattice.model design.now.lattice).joins (owned design.now.records) cells.old pointers.old inputs.now (length reports.old)) ≡ None → GoesOn (L.Lattice.model design.now.lattice).joins (owned design.now.records) cells.new pointers.new }
     {
         match machine::step(design, inputs, cells, pointers, reports) {
             Ok(count) => Ok(Owed { count }),

@@ -2,7 +2,7 @@
 use crate::parts::{expression, fall, goto, head, place, put, register, set, state, tag};
 use design::{Accepted, accept};
 use machine::{start, step};
-use records::{Cell, Input, Mode, Operator, Pointer, Port, Report};
+use records::{Labeled, Mode, Operator, Pointer, Port, Report};
 use session::{NotTaken, SessionFault, Turn, Unwritten};
 use shape::Tables;
 use std::alloc::Global;
@@ -75,15 +75,15 @@ struct Lengths {
 #[derive(Clone, Copy, PartialEq)]
 struct Lent {
     lengths: Lengths,
-    cells: [Cell; 4],
+    cells: [Labeled<u32>; 4],
     pointers: [Pointer; 5],
-    inputs: [Input; 2],
+    inputs: [Labeled<u32>; 2],
     reports: [Report; 9],
 }
 
 // a cell or an input
-const fn of(value: u32, level: u32) -> Cell {
-    Cell { value, level }
+const fn of(value: u32, level: u32) -> Labeled<u32> {
+    Labeled { value, level }
 }
 
 const fn at(value: Option<u32>, level: u32) -> Pointer {
@@ -95,9 +95,9 @@ const fn at(value: Option<u32>, level: u32) -> Pointer {
 enum Change {
     Nothing,
     Lengths(Lengths),
-    Cell(usize, Cell),
+    Cell(usize, Labeled<u32>),
     Pointer(usize, Pointer),
-    Input(Input),
+    Input(Labeled<u32>),
 }
 
 const fn lend(cells: usize, pointers: usize, inputs: usize, reports: usize) -> Change {

@@ -3,4 +3,4 @@ use Rattle.reader.proofs.Choosing.{reads_all, actions, each_action}
 use Rattle.reader.proofs.words.action.Goals as goal
 
 pub returns : goal.returns
-returns c = reads_all action actions c.args.after.now c.args.text.now c.one-of.result each_action c.one-of.ensures
+returns c = reads_all action actions c.args.after.now c.args.text.now c.one_of.result each_action c.one_of.ensures

@@ -3,4 +3,4 @@ use Rattle.reader.proofs.Choosing.{reads_all, operators, each_operator}
 use Rattle.reader.proofs.words.operator.Goals as goal
 
 pub returns : goal.returns
-returns c = reads_all operator operators c.args.after.now c.args.text.now c.one-of.result each_operator c.one-of.ensures
+returns c = reads_all operator operators c.args.after.now c.args.text.now c.one_of.result each_operator c.one_of.ensures
