@@ -16,7 +16,7 @@ import sys
 # Names that would fall together with the library's.
 ALIASES = [("AllByRecursion", "All"), ("ContainsAt", "Has")]
 OTHERWISE = {"bit-and": "bit_of_and", "bit-or": "bit_of_or"}
-NAME = re.compile(r"[A-Za-z_][A-Za-z0-9_']*(?:-[A-Za-z0-9_']+)+|[A-Za-z_][A-Za-z0-9_']*")
+NAME = re.compile(r"[A-Za-z_][A-Za-z0-9_']*(?:[-+][A-Za-z0-9_']+)+|[A-Za-z_][A-Za-z0-9_']*")
 USE = re.compile(r"(?:^|\s)(?:ghost )?use ([A-Za-z0-9_.+'-]+)\.\{([^}]*)\}", re.S)
 HEAD = re.compile(r"^\s*(?:(?:abbrev|unfoldable|pub|private)\s+)*(?:(record|data)\s+)?([A-Za-z_][A-Za-z0-9_'-]*)((?:\s+[({][^:=]*:[^)}]*[)}])*)\s+:\s+(.*)$")
 

@@ -1,14 +1,14 @@
 -- The join of a list is its least upper bound. Assumes nothing.
 use Rattle.std.proofs.Common.{◌≡◌, ℕ, true, List, [], ◌∷◌, fold, refl}
-use Rattle.std.specs.List.{AllByRecursion as All}
+use Rattle.std.specs.List.{AllByRecursion}
 use Rattle.lattice.specs.Model.{Joins, JoinLaws}
 use Rattle.lattice.specs.Folds.{joined, Least, Levels}
 
 module _ (m : Joins) (laws : JoinLaws m) where
   record From (start : ℕ) (levels : List ℕ) (r : ℕ) : Type 0 where
     start_flows : m.flows start r ≡ true
-    above : All (λ a. m.flows a r ≡ true) levels
-    least : (c : ℕ) → m.flows start c ≡ true → All (λ a. m.flows a c ≡ true) levels → m.flows r c ≡ true
+    above : AllByRecursion (λ a. m.flows a r ≡ true) levels
+    least : (c : ℕ) → m.flows start c ≡ true → AllByRecursion (λ a. m.flows a c ≡ true) levels → m.flows r c ≡ true
 
   from : (start : ℕ) (levels : List ℕ) → m.level start ≡ true → Levels m levels → From start levels (fold m.join start levels)
   from start [] s l = record { start_flows = laws.order.reflexive start s; above = tt; least = λ c h k. h }

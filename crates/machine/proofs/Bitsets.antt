@@ -1,7 +1,7 @@
 -- Which bits a union and a set by a test have, and that unions and reaches fit 32 bits. Assumes nothing.
 use Rattle.std.proofs.Common.{◌≡◌, ℕ, zero, suc, ◌+◌, ◌^◌, ◌<◌, ◌≤◌, Bool, true, false, cond, ◌&&◌, ◌||◌, eqb, ltb, leb, List, [], ◌∷◌, map, fold, sym, refl, ap, ◌∙◌, arith, pow_pos}
 use lib.Bits.{bit_or, or_lt}
-use Rattle.std.specs.List.{range_with_len, AllByRecursion as All}
+use Rattle.std.specs.List.{range_with_len, AllByRecursion}
 use Rattle.std.proofs.lemmas.Nat.{pow_below}
 use Rattle.std.proofs.ByRecursion.{All-weaker}
 use Rattle.std.proofs.lemmas.Bool.{and_from, and_parts, and_right, lt-ltb, ltb-true, cond-true, cond_both}
@@ -38,7 +38,7 @@ or_assoc : (a b c : Bool) → ((a || b) || c) ≡ (a || (b || c))
 or_assoc true b c = refl
 or_assoc false b c = refl
 
-folded_bit : (start : ℕ) (xs : List ℕ) → Small start → All Small xs → (t : ℕ) → bit (fold join start xs) t ≡ (bit start t || any_bit xs t)
+folded_bit : (start : ℕ) (xs : List ℕ) → Small start → AllByRecursion Small xs → (t : ℕ) → bit (fold join start xs) t ≡ (bit start t || any_bit xs t)
 folded_bit start [] s h t = or_none (bit start t)
 folded_bit start (x ∷ xs) s h t =
     ap (λ m. bit (fold join m xs) t) (join_or start x s h.0)
@@ -57,14 +57,14 @@ folded_fits : (start : ℕ) (xs : List ℕ) → Small start → Small (fold join
 folded_fits start [] s = s
 folded_fits start (x ∷ xs) s = folded_fits (join start x) xs (join_fits start x)
 
-pub union_bit : (xs : List ℕ) → All (λ x. x < 2 ^ 32) xs → (t : ℕ) → bit (union xs) t ≡ any_bit xs t
+pub union_bit : (xs : List ℕ) → AllByRecursion (λ x. x < 2 ^ 32) xs → (t : ℕ) → bit (union xs) t ≡ any_bit xs t
 union_bit xs h t = folded_bit 0 xs (pow_pos 32) h t ∙ ap (λ b. b || any_bit xs t) (bit_zero t)
 
 -- any union fits, of whatever numbers
 pub union_fits : (xs : List ℕ) → union xs < 2 ^ 32
 union_fits xs = folded_fits 0 xs (pow_pos 32)
 
-pub union_small : (xs : List ℕ) → All (λ x. x < 2 ^ 32) xs → union xs < 2 ^ 32
+pub union_small : (xs : List ℕ) → AllByRecursion (λ x. x < 2 ^ 32) xs → union xs < 2 ^ 32
 union_small xs h = union_fits xs
 
 -- the bit of a set of one number or none
@@ -88,7 +88,7 @@ module _ (p : ℕ → Bool) where
   abbrev single : ℕ → ℕ
   single t = cond (p t) (2 ^ t) 0
 
-  singles_small : (a n : ℕ) → a + n ≤ 32 → All Small (map single (range_with_len a n))
+  singles_small : (a n : ℕ) → a + n ≤ 32 → AllByRecursion Small (map single (range_with_len a n))
   singles_small a zero h = tt
   singles_small a (suc n) h =
       (cond_both (p a) (2 ^ a) 0 Small (λ _. pow_below a 32 (omega arith)) (λ _. pow_pos 32), singles_small (a + 1) n (omega arith))
@@ -104,7 +104,7 @@ pub bit_set_where : (p : ℕ → Bool) (n t : ℕ) → n ≤ 32 → bit (set_whe
 bit_set_where p n t h = union_bit (map (single p) (range_with_len 0 n)) (singles_small p 0 n (omega arith)) t ∙ singles_bit p 0 n t ∙ from_zero n t (p t)
 
 -- what is a member of a set by a test passes it
-pub member_where : (p : ℕ → Bool) (n : ℕ) → n ≤ 32 → All (λ t. (t < n) × (p t ≡ true)) (members (set_where p n))
+pub member_where : (p : ℕ → Bool) (n : ℕ) → n ≤ 32 → AllByRecursion (λ t. (t < n) × (p t ≡ true)) (members (set_where p n))
 member_where p n h = All-weaker (λ t. bit (set_where p n) t ≡ true) (λ t. (t < n) × (p t ≡ true)) passes (members (set_where p n)) (member_bit (set_where p n))
   where
     passes : (t : ℕ) → bit (set_where p n) t ≡ true → (t < n) × (p t ≡ true)

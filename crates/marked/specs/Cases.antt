@@ -1,6 +1,6 @@
 -- Worked cases of the rules: what the definitions give, beside what is due. Assumes nothing.
 use Rattle.std.specs.Prelude.{◌≡◌, ℕ, zero, suc, ◌+◌, List, [], ◌∷◌, ◌++◌, map, length, replicate, Some, None, codes, Option}
-use Rattle.std.specs.List.{range_with_len, AllByRecursion as All}
+use Rattle.std.specs.List.{range_with_len, AllByRecursion}
 use Rattle.lattice.specs.Faults.{Refusal, refuse}
 use Rattle.lattice.specs.Model.{Model}
 use Rattle.lattice.specs.Pairs.{pair_model, reversed}
@@ -232,4 +232,4 @@ Holds c = c.given ≡ c.due
 
 -- every case comes out as due
 abbrev pub Marked : Type 0
-Marked = All Holds cases
+Marked = AllByRecursion Holds cases

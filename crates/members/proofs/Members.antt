@@ -2,7 +2,7 @@
 use Rattle.std.proofs.Common.{◌≡◌, ℕ, zero, suc, ◌+◌, ◌-◌, ◌/◌, ◌%◌, ◌^◌, ◌<◌, ◌≤◌, Bool, true, false, cond, ◌&&◌, eqb, List, [], ◌∷◌, filter, sym, refl, ap, ◌∙◌, subst, ⊎_elim, pow-suc, div-one, one-add, arith}
 use lib.Bits.{bit_and}
 use lib.Count.{count_trailing_zeros, under}
-use Rattle.std.specs.List.{range_with_len, ContainsAt as Has, AllByRecursion as All}
+use Rattle.std.specs.List.{range_with_len, ContainsAt, AllByRecursion}
 use Rattle.std.proofs.ByRecursion.{kept_by_passes, all_kept_by, has_get_or, has_append_right}
 use Rattle.std.proofs.lemmas.Bool.{cases_lt, eqb-true, eqb-false, both_ways, and_left, and_right}
 use Rattle.lattice.specs.Bit.{bit}
@@ -10,34 +10,34 @@ use Rattle.lattice.specs.Bits.{bit_of_and, bit_half}
 use Rattle.members.specs.Members.{members}
 
 -- The members of a set: the bit of each is set, each is below 32, and each such number is a member.
-pub member_bit : (set : ℕ) → All (λ t. bit set t ≡ true) (members set)
+pub member_bit : (set : ℕ) → AllByRecursion (λ t. bit set t ≡ true) (members set)
 unfolding members
 member_bit set = kept_by_passes (bit set) (range_with_len 0 32)
 
-counting_below : (a n m : ℕ) → a + n ≤ m → All (λ t. t < m) (range_with_len a n)
+counting_below : (a n m : ℕ) → a + n ≤ m → AllByRecursion (λ t. t < m) (range_with_len a n)
 counting_below a zero m h = tt
 counting_below a (suc n) m h = (omega arith, counting_below (a + 1) n m (omega arith))
 
-pub member_below : (set : ℕ) → All (λ t. t < 32) (members set)
+pub member_below : (set : ℕ) → AllByRecursion (λ t. t < 32) (members set)
 unfolding members
 member_below set = all_kept_by (bit set) (λ t. t < 32) (range_with_len 0 32) (counting_below 0 32 32 (omega arith))
 
-has_here : (b : Bool) (x : ℕ) (rest : List ℕ) → b ≡ true → Has (cond b (x ∷ rest) rest) x
+has_here : (b : Bool) (x : ℕ) (rest : List ℕ) → b ≡ true → ContainsAt (cond b (x ∷ rest) rest) x
 has_here true x rest e = has_get_or (x ∷ rest) 0 0 (omega arith)
 has_here false x rest e = absurd (both_ways false refl e)
 
-has_later : (b : Bool) (x t : ℕ) (rest : List ℕ) → Has rest t → Has (cond b (x ∷ rest) rest) t
+has_later : (b : Bool) (x t : ℕ) (rest : List ℕ) → ContainsAt rest t → ContainsAt (cond b (x ∷ rest) rest) t
 has_later true x t rest h = has_append_right (x ∷ []) rest t h
 has_later false x t rest h = h
 
-kept_has : (p : ℕ → Bool) (t a n : ℕ) → a ≤ t → t < a + n → p t ≡ true → Has (filter p (range_with_len a n)) t
+kept_has : (p : ℕ → Bool) (t a n : ℕ) → a ≤ t → t < a + n → p t ≡ true → ContainsAt (filter p (range_with_len a n)) t
 kept_has p t a zero low high e = absurd (omega arith)
 kept_has p t a (suc n) low high e =
     ⊎_elim (λ l. has_later (p a) a t (filter p (range_with_len (a + 1) n)) (kept_has p t (a + 1) n (omega arith) (omega arith) e))
-    (λ l. let same : a ≡ t = omega arith in subst (Has (filter p (range_with_len a (suc n)))) same (has_here (p a) a (filter p (range_with_len (a + 1) n)) (ap p same ∙ e)))
+    (λ l. let same : a ≡ t = omega arith in subst (ContainsAt (filter p (range_with_len a (suc n)))) same (has_here (p a) a (filter p (range_with_len (a + 1) n)) (ap p same ∙ e)))
     (cases_lt a t)
 
-pub bit_member : (set t : ℕ) → t < 32 → bit set t ≡ true → Has (members set) t
+pub bit_member : (set t : ℕ) → t < 32 → bit set t ≡ true → ContainsAt (members set) t
 unfolding members
 bit_member set t l e = kept_has (bit set) t 0 32 (omega arith) (omega arith) e
 
