@@ -1,5 +1,5 @@
 -- The join of a list is its least upper bound. Assumes nothing.
-use Rattle.std.proofs.Common.{◌≡◌, ℕ, true, List, [], ◌∷◌, fold, refl}
+use Rattle.std.proofs.Common.{◌≡◌, ℕ, true, List, [], ◌∷◌, fold}
 use Rattle.std.specs.List.{AllByRecursion}
 use Rattle.lattice.specs.Model.{Joins, JoinLaws}
 use Rattle.lattice.specs.Folds.{joined, Least, Levels}

@@ -1,10 +1,10 @@
 -- Pairs of levels keep the laws, and so does an order turned round. Assumes nothing.
-use Rattle.std.specs.Prelude.{◌≡◌, ℕ, ◌+◌, ◌*◌, ◌/◌, ◌%◌, ◌^◌, ◌<◌, ◌≤◌, Bool, true, false, ◌&&◌, ◌==◌, refl}
-use Rattle.std.proofs.Common.{sym, ap, ap₂, ◌∙◌, subst, subst₂, lt_of_lt_of_le, mul_comm, arith, pow_pos, pow-add, pow_mono}
-use Rattle.std.proofs.Math.Pow.{split, high, low, recompose}
+use Rattle.std.specs.Prelude.{◌≡◌, ℕ, ◌+◌, ◌*◌, ◌^◌, ◌<◌, ◌≤◌, Bool, true, false, ◌==◌, refl}
+use Rattle.std.proofs.Common.{sym, ap₂, ◌∙◌, subst, subst₂, lt_of_lt_of_le, mul_comm, arith, pow-add, pow_mono}
+use Rattle.std.proofs.Math.Pow.{split, high, low}
 use Rattle.std.proofs.lemmas.Nat.{mul-add-lt}
-use Rattle.std.proofs.lemmas.Bool.{and_from, and_parts, eqb-true, eq-eqb, leb-true}
-use Rattle.lattice.specs.Model.{Joins, Model, Order, Bounds, JoinLaws, Lawful, turned, strict}
+use Rattle.std.proofs.lemmas.Bool.{and_from, and_parts, eqb-true, leb-true}
+use Rattle.lattice.specs.Model.{Joins, Model, Order, Bounds, JoinLaws, Lawful, turned}
 use Rattle.lattice.specs.Pairs.{paired, left_of, right_of, each_level, each_flows, each_op, narrow, single, product, pair_if, pair_model, reversed}
 use Rattle.lattice.specs.Laws.{turned_order, strict_bounds, strict_else}
 

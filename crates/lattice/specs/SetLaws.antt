@@ -1,13 +1,13 @@
 -- Sets of owners keep the laws. Assumes nothing.
-use Rattle.std.specs.Prelude.{◌≡◌, ℕ, ◌-◌, ◌%◌, ◌^◌, ◌<◌, ◌≤◌, Bool, true, false, ◌&&◌, refl}
-use Rattle.std.proofs.Common.{sym, ap, ◌∙◌, subst, ⊎_elim, mod-eq_of_lt, pow_pos}
+use Rattle.std.specs.Prelude.{◌≡◌, ℕ, ◌-◌, ◌^◌, ◌≤◌, true, ◌&&◌, refl}
+use Rattle.std.proofs.Common.{sym, ◌∙◌, ⊎_elim, mod-eq_of_lt, pow_pos}
 use Rattle.std.specs.Int.Bits.{bit_and, bit_or, and_lt}
 use Rattle.std.proofs.lemmas.Nat.{and_mask, or_lt}
 use Rattle.std.proofs.Math.Pow.{ones_lt}
 use Rattle.std.proofs.lemmas.Bool.{and_from, and_parts, or_cases, or_left, or_right, ltb-true, lt-ltb, eq-eqb}
 use Rattle.lattice.specs.Bit.{bit, within}
-use Rattle.lattice.specs.Model.{Order, Bounds, JoinLaws, Lawful, turned}
-use Rattle.lattice.specs.Sets.{set_of, included, owners_joins, owners_model}
+use Rattle.lattice.specs.Model.{Order, Bounds, Lawful, turned}
+use Rattle.lattice.specs.Sets.{set_of, included, owners_model}
 use Rattle.lattice.specs.Bits.{bit_of_and, bit_of_or, bit_within, within_bits, within_antisymmetric}
 use Rattle.lattice.specs.Laws.{turned_order, strict_bounds, strict_else}
 

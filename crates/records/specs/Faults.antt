@@ -1,5 +1,5 @@
 -- What the refusal of a text says: its number and the place. Assumes nothing.
-use Rattle.std.specs.Prelude.{ℕ, List, [], ◌∷◌, Option}
+use Rattle.std.specs.Prelude.{ℕ, [], ◌∷◌, Option}
 use Rattle.lattice.specs.Faults.{Refusal, refuse}
 use Rattle.records.specs.declared.faults.LineFault.{LineFault}
 use Rattle.records.specs.declared.faults.LineFault.TheVariants.{NotDue, TooLong}

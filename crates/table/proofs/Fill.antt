@@ -1,5 +1,5 @@
 -- A loop that fills a table of zeros place by place, and the tests of rows as the code puts them. Assumes nothing.
-use Rattle.std.proofs.Common.{◌≡◌, ℕ, ◌+◌, ◌^◌, ◌<◌, ◌≤◌, Bool, true, false, cond, not, ◌||◌, ltb, leb, nat_lt, None, [], ◌∷◌, subst, ◌≢◌, List, length, get_or, take, set, sym, ap, ◌∙◌, ⊎_elim, add-one, arith, length-take, get_or-set_other, get_or-take, get_or-set_same}
+use Rattle.std.proofs.Common.{◌≡◌, ℕ, ◌+◌, ◌^◌, ◌<◌, ◌≤◌, Bool, true, false, cond, not, ◌||◌, ltb, leb, nat_lt, None, [], ◌∷◌, subst, List, length, get_or, take, set, sym, ap, ◌∙◌, ⊎_elim, add-one, arith, length-take, get_or-set_other, get_or-take, get_or-set_same}
 use mathlib.Core.Path.{fun_ext}
 use lib.Bits.{bit_or}
 use Rattle.std.proofs.lemmas.List.{get_or_past}

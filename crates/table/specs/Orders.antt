@@ -1,19 +1,18 @@
 -- Rows that pass the tests are those of a lattice. Assumes nothing.
 use Rattle.std.specs.Prelude.{◌≡◌, ℕ, zero, suc, ◌+◌, ◌-◌, ◌^◌, ◌<◌, ◌≤◌, Bool, true, false, cond, not, ◌&&◌, ◌||◌, leb, ◌==◌, ◌≢◌, nat_le, nat_lt, refl}
-use Rattle.std.proofs.Common.{sym, ap, ap₂, ◌∙◌, subst, ⊎_elim, inl, inr, arith, mod-eq_of_lt, lt_of_lt_of_le, lt_of_le_of_lt, pow_mono}
+use Rattle.std.proofs.Common.{sym, ap, ap₂, ◌∙◌, subst, ⊎_elim, arith, mod-eq_of_lt, lt_of_lt_of_le, lt_of_le_of_lt, pow_mono}
 use Rattle.std.proofs.Math.Path.{fun_ext}
-use Rattle.std.specs.Int.Bits.{bit_and, bit_or}
 use Rattle.std.proofs.lemmas.Nat.{and_mask}
 use Rattle.std.proofs.Math.Pow.{ones_lt, pow-lt}
-use Rattle.std.proofs.lemmas.Bool.{and_from, and_parts, and_cases, or_cases, or_parts, not-false, both_ways, eqb-true, eqb-false, eq-eqb, ltb-true, ltb-false, lt-ltb, le-ltb, leb-true, leb-false, le-leb, lt-leb, cond-true, cases_lt, cases_eq}
+use Rattle.std.proofs.lemmas.Bool.{and_from, and_parts, and_cases, or_parts, not-false, both_ways, eqb-true, eqb-false, eq-eqb, ltb-true, ltb-false, lt-ltb, le-ltb, leb-true, leb-false, le-leb, lt-leb, cond-true, cases_lt, cases_eq}
 use Rattle.std.proofs.lemmas.Bool.Decides.{nat_tests}
 use Rattle.lattice.specs.Bit.{bit, within}
-use Rattle.lattice.specs.Model.{Order, Bounds, JoinLaws, Lawful, turned, strict}
+use Rattle.lattice.specs.Model.{Order, Bounds, Lawful, turned}
 use Rattle.lattice.specs.Bits.{bit_of_and, bit_of_or, bit_zero, bit_power, bit_above, bit_within, within_bits}
 use Rattle.lattice.specs.Laws.{turned_order, strict_bounds, strict_else}
 use Rattle.search.specs.First.{first, some_below}
 use Rattle.search.proofs.Firsts.{none_passes, some_first, first_passes, first_le, first_here}
-use Rattle.table.specs.Rows.{clashes, breaks, upper, least_in, bound, column, columns, unbounded, lacks, lacking, lowest, least_of, width_of, table_joins, table_model}
+use Rattle.table.specs.Rows.{clashes, breaks, upper, least_in, bound, column, columns, unbounded, lacks, lacking, lowest, least_of, width_of, table_model}
 
 -- rows of a partial order on the levels below n
 record Poset (n : ℕ) (rows : ℕ → ℕ) : Type 0 where

@@ -2,4 +2,4 @@
 use Rattle.members.proofs.tests.takes_each_member.Given as goal
 
 abbrev pub decreases-loop-t : goal.decreases-loop-t
-decreases-loop-t l = l.rest
+decreases-loop-t g l = l.rest

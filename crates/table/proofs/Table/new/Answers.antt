@@ -1,4 +1,4 @@
-use Rattle.std.proofs.Common.{◌≡◌, ℕ, ◌≤◌, Bool, true, false, List, length, take, [], ◌∷◌, cond, nat_lt, nat_le, ◌&&◌, Ok, Err, Option, Result, ap, ap₂, ◌∙◌, sym, arith}
+use Rattle.std.proofs.Common.{◌≡◌, ℕ, ◌≤◌, Bool, true, List, length, take, [], ◌∷◌, nat_lt, nat_le, ◌&&◌, Ok, Err, Option, Result, ap, ap₂, ◌∙◌, sym, arith}
 use Rattle.std.proofs.lemmas.Bool.{le-ltb, le-leb, cond-true, cond-false}
 use Rattle.lattice.specs.Faults.{Refusal, refuse, lattice_kind, Answers, refusal}
 use Rattle.table.specs.Rows.{rows_of, order_verdict, table_verdict}

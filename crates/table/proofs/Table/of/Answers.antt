@@ -1,4 +1,4 @@
-use Rattle.std.proofs.Common.{◌≡◌, ℕ, ◌≤◌, sym, ap, ◌∙◌, subst, ap₂, arith}
+use Rattle.std.proofs.Common.{◌≡◌, ℕ, ◌≤◌, ap, ◌∙◌, subst, ap₂, arith}
 use Rattle.search.specs.First.{first, some_below}
 use Rattle.search.proofs.Firsts.{first_le}
 use Rattle.table.specs.Rows.{rows_of, breaks, columns, lacks, lacking, least_of}

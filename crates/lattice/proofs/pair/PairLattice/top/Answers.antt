@@ -1,4 +1,3 @@
-use Rattle.lattice.specs.Model.{Model, Lawful}
 use Rattle.lattice.specs.PairLaws.{paired_fits}
 use Rattle.lattice.proofs.pair.PairLattice.top.Goals as goal
 
