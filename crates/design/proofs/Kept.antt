@@ -5,8 +5,7 @@ use Rattle.lattice.specs.Faults.{Refusal}
 use Rattle.lattice.specs.Model.{Joins}
 use Rattle.search.specs.First.{first}
 use Rattle.search.proofs.Firsts.{first_before}
-use Rattle.faults.specs.Sweeps.{◌⊳◌, sweep, ports_kind, registers_kind, states_kind, expressions_kind, commands_kind}
-use Rattle.rules.specs.Rules.{outside, count_range, cells_below, bad_size, bad_register, sizes, linked, levels, placed, ended, shallow, state_linked, broken}
+use Rattle.rules.specs.Rules.{◌⊳◌, sweep, ports_kind, registers_kind, states_kind, expressions_kind, commands_kind, outside, count_range, cells_below, bad_size, bad_register, sizes, linked, levels, placed, ended, shallow, state_linked, broken}
 use Rattle.shape.specs.Shape.{Design, register_at}
 use Rattle.design.specs.Verdict.{short_table, short, cut, well_formed, Exact}
 

@@ -2,10 +2,9 @@
 use Rattle.std.specs.Prelude.{◌≡◌, ℕ, cond, [], ◌∷◌, length, take, Some, None, Option, nat_lt}
 use Rattle.lattice.specs.Faults.{Refusal, refuse}
 use Rattle.lattice.specs.Model.{Joins}
-use Rattle.faults.specs.declared.design.Kind.{Kind}
-use Rattle.faults.specs.Faults.{kind_number}
-use Rattle.faults.specs.Sweeps.{◌⊳◌, ports_kind, registers_kind, states_kind, expressions_kind, commands_kind}
-use Rattle.rules.specs.Rules.{sizes, linked, placed, ended, shallow, broken}
+use Rattle.rules.specs.declared.faults.Kind.{Kind}
+use Rattle.rules.specs.Faults.{kind_number}
+use Rattle.rules.specs.Rules.{◌⊳◌, ports_kind, registers_kind, states_kind, expressions_kind, commands_kind, sizes, linked, placed, ended, shallow, broken}
 use Rattle.shape.specs.Shape.{Design}
 
 -- fewer records than the head says

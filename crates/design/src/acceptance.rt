@@ -1,7 +1,7 @@
 ghost use Rattle.std.specs.Prelude.{◌≡◌, IfOk, None};
 ghost use Rattle.lattice.specs.Faults.{Answers};
-ghost use Rattle.faults.specs.Faults.{refusal, kind_number};
-ghost use Rattle.faults.specs.Sweeps.{◌⊳◌};
+ghost use Rattle.rules.specs.Faults.{refusal, kind_number};
+ghost use Rattle.rules.specs.Rules.{◌⊳◌};
 ghost use Rattle.shape.specs.View.{view};
 ghost use Rattle.design.specs.Facts.{WorkedOut};
 ghost use Rattle.design.specs.Model.{owned};
@@ -10,9 +10,8 @@ ghost use Rattle.design.specs.Verdict.{short_table, short, short_if, cut, verdic
 use crate::accepted::Accepted;
 use crate::facts::work_out_facts;
 use crate::owned::Records;
-use faults::{DesignFault, Kind};
 use lattice::Lattice;
-use rules::first_breach;
+use rules::{DesignFault, Kind, first_breach};
 use shape::Tables;
 use std::alloc::{AllocError, Global};
 

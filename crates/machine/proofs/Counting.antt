@@ -6,10 +6,9 @@ use Rattle.records.specs.declared.Command.{Command}
 use Rattle.records.specs.declared.Action.{Action}
 use Rattle.records.specs.declared.Action.TheVariants.{Set, Tag, If, Goto, Fall}
 use Rattle.search.specs.Sum.{sum_below}
-use Rattle.faults.specs.Sweeps.{commands_kind}
+use Rattle.rules.specs.Rules.{commands_kind, sizes, linked, ended, once, branch_names, command_names, times_named, same, command_ends}
 use Rattle.shape.specs.Rank.{lower, ranked}
 use Rattle.shape.specs.Shape.{Design, command_at, state_at, given, is_if, leaves, owner_of, branch_ends, is_last, chain_ends, ends_node, chain_rank, ends_of}
-use Rattle.rules.specs.Rules.{sizes, linked, ended, once, branch_names, command_names, times_named, same, command_ends}
 use Rattle.rules.proofs.Ranking.{ranked_is}
 use Rattle.design.specs.Chains.{Chain, stop, run, is_below, is_fall}
 use Rattle.design.proofs.Kept.{neither, none_breaks, sized_if}

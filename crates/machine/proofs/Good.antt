@@ -15,9 +15,8 @@ use Rattle.records.specs.declared.Action.TheVariants.{Set, Tag, If, Goto, Fall}
 use Rattle.records.specs.declared.Command.{Command}
 use Rattle.records.specs.declared.Labeled.{Labeled}
 use Rattle.records.specs.declared.Register.{Register}
-use Rattle.faults.specs.Sweeps.{◌⊳◌, sweep, registers_kind, states_kind, commands_kind, cells_kind}
+use Rattle.rules.specs.Rules.{◌⊳◌, sweep, registers_kind, states_kind, commands_kind, cells_kind, sizes, bad_size, bad_width, bad_register, cells_below, linked, floor_placed, cell_named, names, fields_linked, command_linked, placed, action_placed, command_placed, has_children}
 use Rattle.shape.specs.Shape.{Design, register_at, state_at, command_at, enforced, holds, given, alike, is_child, owner_of}
-use Rattle.rules.specs.Rules.{sizes, bad_size, bad_width, bad_register, cells_below, linked, floor_placed, cell_named, names, fields_linked, command_linked, placed, action_placed, command_placed, has_children}
 use Rattle.design.specs.Chains.{Chain, stop, run, chain_at, lowest_child, moved}
 use Rattle.design.specs.Facts.{register_of}
 use Rattle.std.proofs.lemmas.List.FromFn.{length-map-range_with_len, get_or-map-range_with_len}

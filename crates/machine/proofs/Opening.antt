@@ -10,10 +10,9 @@ use Rattle.lattice.specs.Faults.{Refusal}
 use Rattle.search.specs.First.{first, some_below}
 use Rattle.search.specs.Sum.{sum_below}
 use Rattle.search.proofs.Firsts.{first_is, first_before}
-use Rattle.faults.specs.Sweeps.{◌⊳◌, sweep, commands_kind}
+use Rattle.rules.specs.Rules.{◌⊳◌, sweep, commands_kind, linked, later, fields_linked, once, command_names, times_named, command_linked}
 use Rattle.shape.specs.Rank.{lower, ranked}
 use Rattle.shape.specs.Shape.{Design, command_at, state_at, holds, is_if, links, is_first, links_to, owner_of, owner_node, chain_rank}
-use Rattle.rules.specs.Rules.{linked, later, fields_linked, once, command_names, times_named, command_linked}
 use Rattle.rules.proofs.Ranking.{ranked_is}
 use Rattle.design.specs.Chains.{Chain, stop, run, Spot, spot, spot_rank, link, chain_node, chain_at, is_below, is_fall}
 use Rattle.design.proofs.Kept.{neither, none_breaks}

@@ -3,10 +3,9 @@ use Rattle.std.specs.Prelude.{◌≡◌, ℕ, ◌^◌, Bool, true, cond, not, �
 use Rattle.std.specs.List.{range_with_len}
 use Rattle.lattice.specs.Faults.{Refusal, refuse}
 use Rattle.lattice.specs.Model.{Joins}
-use Rattle.faults.specs.Sweeps.{◌⊳◌, sweep, states_kind, cells_kind, inputs_kind}
+use Rattle.rules.specs.Rules.{◌⊳◌, sweep, states_kind, cells_kind, inputs_kind, cells_below, has_children}
 use Rattle.records.specs.declared.Labeled.{Labeled}
 use Rattle.records.specs.declared.Report.{Report}
-use Rattle.rules.specs.Rules.{cells_below, has_children}
 use Rattle.shape.specs.Shape.{Design, register_at, is_child}
 use Rattle.design.specs.Chains.{lowest_child}
 use Rattle.design.specs.Facts.{register_of}

@@ -1,16 +1,17 @@
 // What a start and a step ask of the memory that they are lent.
 ghost use Rattle.std.specs.Prelude.{◌≡◌, ◌^◌, [], ◌∷◌, length, if◌then◌else◌, None, nat_lt};
 ghost use Rattle.lattice.specs.Faults.{refuse};
-ghost use Rattle.faults.specs.Faults.{breach_if};
-ghost use Rattle.faults.specs.Sweeps.{◌⊳◌};
+ghost use Rattle.rules.specs.Faults.{breach_if};
+ghost use Rattle.rules.specs.Rules.{◌⊳◌};
 ghost use Rattle.design.specs.Model.{owned};
 ghost use Rattle.machine.specs.Lending.{all_cells, exactly, at_least, length_if, too_wide, under_floor as is_under_floor, bad_level, names_child as is_child_named, bad_pointer, bad_input, bad_cells, bad_pointers, bad_inputs};
 
 use actions::{NO_POINTER, NOTHING};
 use design::Accepted;
-use faults::{Breach, Kind, Rule, keep};
 use lattice::Lattice;
 use records::{Labeled, Pointer};
+use rules::keep::keep;
+use rules::{Breach, Kind, Rule};
 use search::Test;
 use shape::{is_number, record_at};
 

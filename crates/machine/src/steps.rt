@@ -1,6 +1,6 @@
 // Starts and steps over lent memory.
 ghost use Rattle.std.specs.Prelude.{◌≡◌, ◌≤◌, length, None};
-ghost use Rattle.faults.specs.Faults.{refusal};
+ghost use Rattle.rules.specs.Faults.{refusal};
 ghost use Rattle.design.specs.Model.{owned};
 ghost use Rattle.actions.specs.Memory.{memory_of};
 ghost use Rattle.machine.specs.Cycle.{cycle};
@@ -11,9 +11,9 @@ use crate::asked::{first_bad_cell, first_bad_step, wrong_memory, wrong_tables};
 use crate::chains::{Log, run_chain};
 use actions::Board;
 use design::Accepted;
-use faults::DesignFault;
 use lattice::Lattice;
 use records::{Labeled, Pointer, Report};
+use rules::DesignFault;
 
 // Each pointer at its state's lowest child, at bottom.
 fn set_pointers<L: Lattice>(design: &Accepted<L>, pointers: &mut [Pointer])

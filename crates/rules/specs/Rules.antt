@@ -5,7 +5,6 @@ use Rattle.search.specs.First.{first, some_below}
 use Rattle.search.specs.Sum.{sum_below}
 use Rattle.lattice.specs.Faults.{Refusal, refuse}
 use Rattle.lattice.specs.Model.{Joins}
-use Rattle.faults.specs.Sweeps.{◌⊳◌, sweep, ports_kind, registers_kind, states_kind, expressions_kind, commands_kind}
 use Rattle.records.specs.declared.Head.{Head}
 use Rattle.records.specs.declared.Register.{Register}
 use Rattle.records.specs.declared.State.{State}
@@ -16,6 +15,39 @@ use Rattle.records.specs.declared.Operator.TheVariants.{Constant, Input, Read, A
 use Rattle.records.specs.declared.Action.{Action}
 use Rattle.records.specs.declared.Action.TheVariants.{Set, Tag, If, Goto, Fall}
 use Rattle.shape.specs.Shape.{Design, port_at, register_at, state_at, expression_at, command_at, enforced, holds, given, alike, is_child, is_if, is_tag, leaves, branch_ends, is_last, owner_of, depth_of, height_of, ends_of}
+
+-- the kinds of records
+abbrev pub ports_kind : ℕ
+ports_kind = 0
+
+abbrev pub registers_kind : ℕ
+registers_kind = 1
+
+abbrev pub states_kind : ℕ
+states_kind = 2
+
+abbrev pub expressions_kind : ℕ
+expressions_kind = 3
+
+abbrev pub commands_kind : ℕ
+commands_kind = 4
+
+-- cells and inputs are no records, but places of a refusal
+abbrev pub cells_kind : ℕ
+cells_kind = 5
+
+abbrev pub inputs_kind : ℕ
+inputs_kind = 6
+
+-- the first cause to refuse of two, the second tested after the first
+infixl 20 ◌⊳◌
+abbrev pub ◌⊳◌ : Option Refusal → Option Refusal → Option Refusal
+None ⊳ later = later
+(Some r) ⊳ later = Some r
+
+-- a rule over the records of a kind: the lowest that breaks it
+abbrev pub sweep : ℕ → ℕ → ℕ → (ℕ → Bool) → Option Refusal
+sweep rule kind count breaks = cond (some_below breaks count) (refuse rule (kind ∷ first breaks count ∷ [])) None
 
 -- numbers within their limits
 abbrev pub outside : ℕ → ℕ → ℕ → Bool

@@ -1,12 +1,13 @@
 // Rule 8: how deep states and expressions are.
 ghost use Rattle.std.specs.Prelude.{◌≡◌, ◌≤◌, nat_lt, slice_index};
-ghost use Rattle.faults.specs.Faults.{breach_if};
+ghost use Rattle.rules.specs.Faults.{breach_if};
 ghost use Rattle.rules.specs.Rules.{shallow};
 ghost use Rattle.shape.specs.Shape.{depth_node, height_node, operand};
 ghost use Rattle.shape.specs.View.{view};
 
+use crate::faults::{Breach, Kind, Rule};
+use crate::keep::keep;
 use crate::ranks::{MOST_RECORDS, Node, work_out};
-use faults::{Breach, Kind, Rule, keep};
 use records::Operator;
 use search::Test;
 use shape::{Tables, record_at};

@@ -1,12 +1,13 @@
 // Rule 7: which chains end.
 ghost use Rattle.std.specs.Prelude.{◌≡◌, ℕ, ◌≤◌, false, not, get_or, slice_index_or};
 ghost use Rattle.shape.specs.Shape.{leaves, branch_ends, is_last, chain_ends, ends_of, state_at, command_at};
-ghost use Rattle.faults.specs.Faults.{breach_if};
+ghost use Rattle.rules.specs.Faults.{breach_if};
 ghost use Rattle.rules.specs.Rules.{command_ends, ended};
 ghost use Rattle.shape.specs.View.{view};
 
+use crate::faults::{Breach, Kind, Rule};
+use crate::keep::keep;
 use crate::ranks::MOST_RECORDS;
-use faults::{Breach, Kind, Rule, keep};
 use records::{Action, Command};
 use search::Test;
 use shape::{Tables, is_if, record_at};

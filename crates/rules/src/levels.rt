@@ -1,11 +1,12 @@
 // Rule 5: the levels that records name.
 ghost use Rattle.std.specs.Prelude.{◌≡◌};
-ghost use Rattle.faults.specs.Faults.{breach_if};
+ghost use Rattle.rules.specs.Faults.{breach_if};
 ghost use Rattle.shape.specs.Shape.{register_at, command_at, is_tag};
 ghost use Rattle.rules.specs.Rules.{is_level, bad_floor, bad_state_level, bad_tag_level, levels};
 ghost use Rattle.shape.specs.View.{view};
 
-use faults::{Breach, Kind, Rule, keep};
+use crate::faults::{Breach, Kind, Rule};
+use crate::keep::keep;
 use lattice::Lattice;
 use records::Action;
 use search::Test;

@@ -3,8 +3,11 @@
 
 mod depth;
 mod ends;
+mod faults;
+pub mod keep;
 mod levels;
 mod links;
+mod numbers;
 mod places;
 mod ranks;
 mod sizes;

@@ -1,11 +1,12 @@
 // Rule 4: what the records name.
 ghost use Rattle.std.specs.Prelude.{◌≡◌, not, if◌then◌else◌, Some, ◌==◌};
-ghost use Rattle.faults.specs.Faults.{breach_if};
+ghost use Rattle.rules.specs.Faults.{breach_if};
 ghost use Rattle.shape.specs.Shape.{given, register_at, state_at, command_at};
 ghost use Rattle.rules.specs.Rules.{names, later, indexes, floor_placed, state_linked, expression_linked, cell_named, fields_linked, once, command_names, times_named, command_linked, linked};
 ghost use Rattle.shape.specs.View.{view};
 
-use faults::{Breach, Kind, Rule, keep};
+use crate::faults::{Breach, Kind, Rule};
+use crate::keep::keep;
 use records::{Action, Command, Expression, Operator, Register};
 use search::{Amount, Test, sum_below};
 use shape::{Tables, is_enforced, is_number};

@@ -1,12 +1,13 @@
 // Rule 6: where commands stand.
 ghost use Rattle.std.specs.Prelude.{◌≡◌, ℕ, ◌≤◌, min, not, if◌then◌else◌, nat_lt, slice_index};
 ghost use Rattle.shape.specs.Shape.{is_first, links_to, links, alike, is_child, owner_node, owner_of};
-ghost use Rattle.faults.specs.Faults.{breach_if};
+ghost use Rattle.rules.specs.Faults.{breach_if};
 ghost use Rattle.rules.specs.Rules.{enforced_register, enforced_state, goto_placed, action_placed, has_check, command_placed, placed};
 ghost use Rattle.shape.specs.View.{view};
 
+use crate::faults::{Breach, Kind, Rule};
+use crate::keep::keep;
 use crate::ranks::{MOST_RECORDS, Node, work_out};
-use faults::{Breach, Kind, Rule, keep};
 use records::{Action, Command};
 use search::{Test, first_below};
 use shape::{Tables, is_enforced, is_if, is_number, record_at};

@@ -1,12 +1,12 @@
 // Rule 3: sizes.
 ghost use Rattle.std.specs.Prelude.{◌≡◌, ◌+◌};
-ghost use Rattle.faults.specs.Faults.{breach_if, kind_number};
-ghost use Rattle.faults.specs.Sweeps.{◌⊳◌};
-ghost use Rattle.rules.specs.Rules.{outside, bad_size, bad_port, bad_register, cells_below, count_range, counts, sizes};
+ghost use Rattle.rules.specs.Faults.{breach_if, kind_number};
+ghost use Rattle.rules.specs.Rules.{outside, bad_size, bad_port, bad_register, cells_below, count_range, counts, sizes, ◌⊳◌};
 ghost use Rattle.shape.specs.Shape.{register_at};
 ghost use Rattle.shape.specs.View.{view};
 
-use faults::{Breach, Kind, Rule, keep};
+use crate::faults::{Breach, Kind, Rule};
+use crate::keep::keep;
 use records::{Head, Register};
 use search::{Amount, Test, sum_below};
 use shape::{Tables, is_enforced};

@@ -1,16 +1,16 @@
 // All rules, in their order.
 ghost use Rattle.std.specs.Prelude.{◌≡◌};
-ghost use Rattle.faults.specs.Faults.{breach_if};
+ghost use Rattle.rules.specs.Faults.{breach_if};
 ghost use Rattle.rules.specs.Rules.{broken};
 ghost use Rattle.shape.specs.View.{view};
 
 use crate::depth::check_depth;
 use crate::ends::check_ends;
+use crate::faults::Breach;
 use crate::levels::check_levels;
 use crate::links::check_links;
 use crate::places::check_places;
 use crate::sizes::check_sizes;
-use faults::Breach;
 use lattice::Lattice;
 use shape::Tables;
 

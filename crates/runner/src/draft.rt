@@ -1,7 +1,7 @@
 // The lines of a text as they are read. The tables grow with the lines, so that a count out of range is acceptance's to refuse.
-use faults::DesignFault;
 use reader::{Line, Reader};
 use records::{Cell, Command, Expression, Head, Input, Labeled, Port, Register, State};
+use rules::DesignFault;
 use shape::Tables;
 use std::alloc::Global;
 use table::Table;

@@ -1,10 +1,10 @@
 ghost use Rattle.std.specs.Prelude.{◌≡◌};
-ghost use Rattle.faults.specs.declared.design.DesignFault.TheVariants.{Line as LineOf, Lattice as LatticeOf};
+ghost use Rattle.rules.specs.declared.faults.DesignFault.TheVariants.{Line as LineOf, Lattice as LatticeOf};
 ghost use Rattle.session.specs.declared.faults.SessionFault.TheVariants.{Design as DesignOf, Memory};
 
-use faults::DesignFault;
 use lattice::LatticeFault;
 use records::LineFault;
+use rules::DesignFault;
 use std::alloc::AllocError;
 use std::fmt;
 

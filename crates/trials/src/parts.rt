@@ -1,6 +1,6 @@
 // Records in short, and places as numbers.
-use faults::{Breach, DesignFault, Kind};
 use records::{Action, Command, Expression, Head, Mode, Operator, Register, State};
+use rules::{Breach, DesignFault, Kind};
 
 pub(crate) const fn register(width: u32, cells: u32, mode: Mode, floor: Option<u32>) -> Register {
     Register {

@@ -1,7 +1,7 @@
 use Rattle.std.proofs.Common.{◌≡◌, ℕ, ◌<◌, List, length, Some, None, Option, unwrap_or, sym, ap, ◌∙◌, subst, arith}
 use Rattle.lattice.specs.Faults.{Refusal}
 use Rattle.lattice.specs.Model.{Joins}
-use Rattle.faults.specs.Sweeps.{◌⊳◌}
+use Rattle.rules.specs.Rules.{◌⊳◌}
 use Rattle.records.specs.declared.Labeled.{Labeled}
 use Rattle.shape.specs.Shape.{Design, state_at}
 use Rattle.design.specs.Chains.{chain_at}

@@ -1,5 +1,5 @@
 use Rattle.std.proofs.Common.{ltb, ap, ◌∙◌, ap₂}
-use Rattle.faults.specs.Sweeps.{◌⊳◌}
+use Rattle.rules.specs.Rules.{◌⊳◌}
 use Rattle.shape.specs.Shape.{depth_of, height_of}
 use Rattle.shape.specs.View.{view}
 use Rattle.rules.proofs.Ranking.{held}

@@ -1,7 +1,6 @@
 use Rattle.std.proofs.Common.{◌≡◌, ℕ, Bool, false, not, get_or, ap, ◌∙◌, ap₂}
 use mathlib.Core.Path.{fun_ext}
-use Rattle.faults.specs.Sweeps.{◌⊳◌, sweep}
-use Rattle.rules.specs.Rules.{command_ends}
+use Rattle.rules.specs.Rules.{◌⊳◌, sweep, command_ends}
 use Rattle.shape.specs.Shape.{state_at, command_at, ends_of}
 use Rattle.shape.specs.View.{view}
 use Rattle.rules.proofs.ends.check_ends.Goals as goal

@@ -2,13 +2,13 @@
 use Rattle.std.specs.Prelude.{ℕ, List, [], ◌∷◌, Some, None, Option}
 use Rattle.lattice.specs.Faults.{Refusal, refuse, refusal as lattice_refusal, lattice_kind}
 use Rattle.records.specs.Faults.{refusal as line_refusal, text_kind}
-use Rattle.faults.specs.declared.design.DesignFault.{DesignFault}
-use Rattle.faults.specs.declared.design.DesignFault.TheVariants.{Line, Lattice, ShortTable, Broken, WrongLength, Memory}
-use Rattle.faults.specs.declared.design.Breach.{Breach}
-use Rattle.faults.specs.declared.design.Kind.{Kind}
-use Rattle.faults.specs.declared.design.Kind.TheVariants.{Port, Register, State, Expression, Command, Cell, Input}
-use Rattle.faults.specs.declared.design.Rule.{Rule}
-use Rattle.faults.specs.declared.design.Rule.TheVariants.{Sizes, Links, Levels, Places, Ends, Depth}
+use Rattle.rules.specs.declared.faults.DesignFault.{DesignFault}
+use Rattle.rules.specs.declared.faults.DesignFault.TheVariants.{Line, Lattice, ShortTable, Broken, WrongLength, Memory}
+use Rattle.rules.specs.declared.faults.Breach.{Breach}
+use Rattle.rules.specs.declared.faults.Kind.{Kind}
+use Rattle.rules.specs.declared.faults.Kind.TheVariants.{Port, Register, State, Expression, Command, Cell, Input}
+use Rattle.rules.specs.declared.faults.Rule.{Rule}
+use Rattle.rules.specs.declared.faults.Rule.TheVariants.{Sizes, Links, Levels, Places, Ends, Depth}
 
 abbrev pub kind_number : Kind → ℕ
 kind_number Port = 0

@@ -1,5 +1,5 @@
 ghost use Rattle.std.specs.Prelude.{◌≡◌};
-ghost use Rattle.faults.specs.declared.design.DesignFault.TheVariants.{Line as LineOf, Lattice as LatticeOf, Broken, Memory};
+ghost use Rattle.rules.specs.declared.faults.DesignFault.TheVariants.{Line as LineOf, Lattice as LatticeOf, Broken, Memory};
 
 use lattice::LatticeFault;
 use records::LineFault;

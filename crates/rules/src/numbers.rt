@@ -1,8 +1,8 @@
 ghost use Rattle.std.specs.Prelude.{◌≡◌};
 ghost use Rattle.lattice.specs.Faults.{numbered};
-ghost use Rattle.faults.specs.Faults.{rule_number, refusal};
+ghost use Rattle.rules.specs.Faults.{rule_number, refusal};
 
-use crate::design::{DesignFault, Rule};
+use crate::faults::{DesignFault, Rule};
 
 impl Rule {
     pub fn number(&self) -> u32

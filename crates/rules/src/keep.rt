@@ -1,9 +1,9 @@
 // A rule over the records of a kind.
 ghost use Rattle.std.specs.Prelude.{◌≡◌};
-ghost use Rattle.faults.specs.Faults.{breach_if, rule_number, kind_number};
-ghost use Rattle.faults.specs.Sweeps.{sweep, ◌⊳◌};
+ghost use Rattle.rules.specs.Faults.{breach_if, rule_number, kind_number};
+ghost use Rattle.rules.specs.Rules.{sweep, ◌⊳◌};
 
-use crate::design::{Breach, Kind, Rule};
+use crate::faults::{Breach, Kind, Rule};
 use search::{Test, first_below};
 
 // What was found before, or else the lowest record below `count` that breaks the rule.
