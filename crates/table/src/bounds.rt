@@ -3,8 +3,7 @@ ghost use Rattle.std.specs.Prelude.{◌≡◌, ◌||◌};
 ghost use Rattle.table.specs.Rows.{rows_of, least_in, bound, lowest, least_of, unbounded, lacking, lacked};
 ghost use Rattle.search.specs.First.{some_below};
 
-use crate::relation::{Relation, includes};
-use members::has;
+use crate::relation::{Relation, has, includes};
 use search::{Test, first_below};
 
 // The least levels of a row.

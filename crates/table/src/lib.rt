@@ -9,9 +9,8 @@ ghost use Rattle.table.specs.Orders.{table_lawful};
 
 use bounds::{first_lacked, first_lacking, least, least_above};
 use lattice::{Lattice, LatticeFault};
-use members::has;
 use order::first_broken;
-use relation::{MOST_LEVELS, Relation};
+use relation::{MOST_LEVELS, Relation, has};
 
 mod bounds;
 mod order;

@@ -3,8 +3,7 @@ ghost use Rattle.std.specs.Prelude.{◌≡◌};
 ghost use Rattle.search.specs.First.{first};
 ghost use Rattle.table.specs.Rows.{rows_of, clashes, breaks};
 
-use crate::relation::{Relation, includes};
-use members::has;
+use crate::relation::{Relation, has, includes};
 use search::{Test, first_below};
 
 // The levels that show that row i is no row of a partial order.

@@ -2,7 +2,8 @@ ghost use Rattle.std.specs.Prelude.{◌≡◌, ℕ, ◌≤◌, length, take};
 ghost use Rattle.lattice.specs.Bit.{within};
 ghost use Rattle.table.specs.Rows.{rows_of, column, columns};
 
-use members::has;
+// Bit j of a row is set.
+pub(crate) use members::has;
 
 pub(crate) const MOST_LEVELS: usize = 16;
 
