@@ -1,5 +1,5 @@
 -- The entries of the members of a set, changed one after another. Assumes nothing.
-use Rattle.std.proofs.Common.{◌≡◌, ℕ, List, [], ◌∷◌, sym, refl, ap, ◌∙◌}
+use Rattle.std.proofs.Common.{◌≡◌, ℕ, List, [], ◌∷◌, sym, ap, ◌∙◌}
 use Rattle.actions.specs.Memory.{change, change_each}
 
 module _ {A : Type 0} (none : A) (place : ℕ → ℕ) (f : ℕ → A → A) where

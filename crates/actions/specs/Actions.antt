@@ -1,5 +1,5 @@
 -- What each command does. Assumes nothing.
-use Rattle.std.specs.Prelude.{ℕ, Bool, true, cond, ◌&&◌, List, [], ◌∷◌, Some, None, Option, ◌==◌}
+use Rattle.std.specs.Prelude.{ℕ, Bool, true, cond, ◌&&◌, List, [], ◌∷◌, Some, Option, ◌==◌}
 use Rattle.std.specs.Option.{unwrap_or}
 use Rattle.lattice.specs.Folds.{joined}
 use Rattle.lattice.specs.Model.{Joins}
@@ -15,7 +15,7 @@ use Rattle.actions.specs.declared.ways.Reach.{Reach}
 use Rattle.actions.specs.declared.ways.Way.{Way}
 use Rattle.actions.specs.declared.ways.Way.TheVariants.{On, Otherwise, Then, Else, Child}
 use Rattle.actions.specs.Formulas.{formula_of, evaluated}
-use Rattle.actions.specs.Memory.{Memory, memory_of, labeled, no_cell, no_pointer, slot, cell_at, pointer_at, with_cells, with_pointers, put_cell, change_each, raised}
+use Rattle.actions.specs.Memory.{Memory, memory_of, labeled, no_cell, no_pointer, slot, cell_at, pointer_at, with_pointers, put_cell, change_each, raised}
 use Rattle.actions.specs.Values.{cut}
 
 -- What a command does: the memory after it, and which of its other chains runs before what follows, and in which context.

@@ -9,7 +9,6 @@ use Rattle.records.specs.declared.Operator.TheVariants.{Constant, Input, Read, A
 use Rattle.shape.specs.Rank.{ranked}
 use Rattle.shape.specs.Shape.{Design, port_at, expression_at}
 use Rattle.actions.specs.declared.expressions.Form.{Form}
-use Rattle.actions.specs.declared.expressions.Form.TheVariants as Form
 use Rattle.actions.specs.Memory.{no_cell, labeled, slot}
 use Rattle.actions.specs.Values.{applied, cut}
 

@@ -1,5 +1,5 @@
 -- What a cycle changes: the cells and the pointers. Assumes nothing.
-use Rattle.std.specs.Prelude.{ℕ, ◌+◌, ◌%◌, max, List, [], ◌∷◌, set, None, Option, slice_index_or, slice_set}
+use Rattle.std.specs.Prelude.{ℕ, ◌+◌, ◌%◌, max, List, [], ◌∷◌, None, Option, slice_index_or, slice_set}
 use Rattle.lattice.specs.Folds.{joined}
 use Rattle.lattice.specs.Model.{Joins}
 use Rattle.records.specs.declared.Labeled.{Labeled}

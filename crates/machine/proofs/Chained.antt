@@ -1,5 +1,5 @@
 -- What a command of a design does, and the chain that it chooses. Assumes nothing.
-use Rattle.std.proofs.Common.{◌≡◌, ℕ, zero, suc, ◌+◌, ◌<◌, ◌≤◌, max, Bool, true, false, cond, ◌&&◌, ltb, List, [], ◌∷◌, map, length, get_or, Some, None, Option, sym, refl, ap, ◌∙◌, subst, ap₂, ⊎_elim, arith}
+use Rattle.std.proofs.Common.{◌≡◌, ℕ, zero, suc, ◌+◌, ◌<◌, ◌≤◌, Bool, true, false, cond, ◌&&◌, ltb, List, [], ◌∷◌, map, length, Some, None, Option, sym, refl, ap, ◌∙◌, subst, ap₂, ⊎_elim, arith}
 use Rattle.std.specs.List.{range_with_len}
 use Rattle.std.proofs.lemmas.List.{get_or_past}
 use Rattle.std.proofs.lemmas.Bool.{cases_lt, cond-true, cond-false, cond_both, le-ltb, lt-ltb, ltb-true, and_parts}
@@ -13,7 +13,7 @@ use Rattle.rules.specs.Rules.{sizes, linked}
 use Rattle.rules.proofs.Ranking.{ranked_is}
 use Rattle.shape.specs.Rank.{lower}
 use Rattle.shape.specs.Shape.{Design, command_at, state_at, no_state, is_if, owner_of}
-use Rattle.design.specs.Chains.{Chain, stop, run, is_below, is_fall, under, below_node, descendants, reach}
+use Rattle.design.specs.Chains.{Chain, stop, is_below, is_fall, under, below_node, reach}
 use Rattle.design.specs.Facts.{state_kept, command_kept, command_facts, no_command_facts}
 use Rattle.design.specs.declared.facts.CommandFacts.{CommandFacts}
 use Rattle.design.proofs.Kept.{sized_if}
@@ -23,7 +23,7 @@ use Rattle.actions.specs.declared.ways.Way.{Way}
 use Rattle.actions.specs.declared.ways.Way.TheVariants.{On, Otherwise, Then, Else, Child}
 use Rattle.actions.specs.Actions.{Done, act}
 use Rattle.machine.specs.Cycle.{reach_of, noted, along, exec}
-use Rattle.machine.specs.Kept.{kept_reach, if_branch, if_child, detour_of}
+use Rattle.machine.specs.Kept.{kept_reach, if_child, detour_of}
 use Rattle.machine.specs.Links.{chain_of, rank_of, states_of, Names}
 use Rattle.machine.specs.Cycle.{Running, running}
 use Rattle.actions.specs.Memory.{Memory}
@@ -33,7 +33,7 @@ use Rattle.machine.specs.View.{Leaves}
 use Rattle.machine.specs.declared.chains.Log.{Log}
 use Rattle.actions.proofs.Leaving.{kept_state}
 use Rattle.machine.proofs.Lists.{drop_later}
-use Rattle.machine.proofs.Opening.{LinkFrom, linked_node, Falls, rank_falls, opens, opens_states}
+use Rattle.machine.proofs.Opening.{LinkFrom, linked_node, rank_falls, opens, opens_states}
 
 -- no chain does nothing
 pub exec_none : (m : Joins) (d : Design) (inputs : List (Labeled ℕ)) (o : Option ℕ) (c : ℕ) (r : Running) → o ≡ None → r ≡ exec m d inputs (chain_of d o) c r

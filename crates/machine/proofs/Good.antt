@@ -1,6 +1,6 @@
 -- A cycle that starts from a memory that a step accepts leaves a memory that a step accepts. Assumes nothing.
 use Rattle.std.proofs.Common.{◌≡◌, ℕ, zero, suc, ◌+◌, ◌%◌, ◌^◌, ◌<◌, ◌≤◌, max, Bool, true, false, cond, not, ◌||◌, eqb, ltb, List, [], ◌∷◌, length, get_or, set, Some, None, fold, Option, unwrap_or, sym, refl, ap, ◌∙◌, subst, ⊎_elim, mod-lt, arith, length-set, get_or-set_other, get_or-set_same, pow_pos}
-use Rattle.std.proofs.lemmas.Bool.{both_ways, not-false, not_from_true, ltb-true, ltb-false, lt-ltb, le-ltb, eqb-true, eqb-false, eq-eqb, cases_lt, cases_eq, and_parts, and_from, or_parts, or_from, cond-true, cond-false, cond_both}
+use Rattle.std.proofs.lemmas.Bool.{both_ways, not-false, not_from_true, ltb-true, lt-ltb, le-ltb, eqb-true, eqb-false, eq-eqb, cases_lt, cases_eq, and_parts, and_from, or_parts, or_from, cond-true, cond-false, cond_both}
 use Rattle.lattice.specs.Faults.{Refusal, refuse}
 use Rattle.lattice.specs.Folds.{joined}
 use Rattle.lattice.specs.Model.{Joins, JoinLaws}
@@ -8,7 +8,7 @@ use Rattle.lattice.proofs.FoldLaws.{joined_least}
 use Rattle.lattice.specs.Laws.{join_level}
 use Rattle.search.specs.First.{first, some_below}
 use Rattle.search.specs.Sum.{sum_below}
-use Rattle.search.proofs.Firsts.{first_is, first_before, first_passes}
+use Rattle.search.proofs.Firsts.{first_is, first_passes}
 use Rattle.members.specs.Members.{members}
 use Rattle.records.specs.declared.Action.{Action}
 use Rattle.records.specs.declared.Action.TheVariants.{Set, Tag, If, Goto, Fall}

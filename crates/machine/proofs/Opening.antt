@@ -1,16 +1,15 @@
 -- What a command links to, and the chain from a command on, opened. Assumes nothing.
 use Rattle.std.proofs.Common.{◌≡◌, ℕ, suc, ◌+◌, ◌-◌, ◌*◌, ◌<◌, ◌≤◌, Bool, true, false, cond, not, ◌&&◌, ◌||◌, ltb, Some, None, Option, sym, refl, ap, ◌∙◌, subst, mul_comm, arith}
 use Rattle.std.proofs.lemmas.Nat.{mul-add-lt}
-use Rattle.std.proofs.lemmas.Bool.{and_parts, and_from, or_left, or_right, both_ways, eqb-true, ltb-true, lt-ltb, eq-eqb, ltb-false, le-ltb, not-false, cond-true, cond-false, cond_both}
+use Rattle.std.proofs.lemmas.Bool.{and_parts, and_from, or_left, or_right, both_ways, eqb-true, ltb-true, lt-ltb, eq-eqb, le-ltb, not-false, cond-true, cond-false, cond_both}
 use Rattle.std.proofs.lemmas.Bool.Decides.{nat_tests}
 use Rattle.records.specs.declared.Command.{Command}
 use Rattle.records.specs.declared.Action.{Action}
 use Rattle.records.specs.declared.Action.TheVariants.{Set, Tag, If, Goto, Fall}
-use Rattle.lattice.specs.Faults.{Refusal}
 use Rattle.search.specs.First.{first, some_below}
 use Rattle.search.specs.Sum.{sum_below}
-use Rattle.search.proofs.Firsts.{first_is, first_before}
-use Rattle.rules.specs.Rules.{◌⊳◌, sweep, commands_kind, linked, later, fields_linked, once, command_names, times_named, command_linked}
+use Rattle.search.proofs.Firsts.{first_is}
+use Rattle.rules.specs.Rules.{commands_kind, linked, later, fields_linked, once, command_names, times_named, command_linked}
 use Rattle.shape.specs.Rank.{lower, ranked}
 use Rattle.shape.specs.Shape.{Design, command_at, state_at, holds, is_if, links, is_first, links_to, owner_of, owner_node, chain_rank}
 use Rattle.rules.proofs.Ranking.{ranked_is}

@@ -1,5 +1,5 @@
 -- Nothing of an accepted design is cut off in its trees. Assumes nothing.
-use Rattle.std.proofs.Common.{◌≡◌, ℕ, ◌<◌, Bool, true, false, cond, not, ◌&&◌, eqb, ltb, Some, None, Option, sym, refl, ap, ◌∙◌, subst, ap₂}
+use Rattle.std.proofs.Common.{◌≡◌, ℕ, ◌<◌, Bool, true, false, cond, not, ◌&&◌, eqb, ltb, Some, None, Option, refl, ap, ◌∙◌, ap₂}
 use Rattle.std.proofs.lemmas.Bool.{and_parts, both_ways, cond-true, not-false}
 use Rattle.rules.specs.Rules.{expressions_kind, linked, expression_linked, indexes, names, operands}
 use Rattle.records.specs.declared.Expression.{Expression}
@@ -7,7 +7,7 @@ use Rattle.records.specs.declared.Operator.{Operator}
 use Rattle.records.specs.declared.Operator.TheVariants.{Constant, Input, Read, Add, Subtract, And, Or, Xor, ShiftLeft, ShiftRight, Equal, Less}
 use Rattle.shape.specs.Shape.{Design, register_at, expression_at, given}
 use Rattle.design.proofs.Kept.{neither, none_breaks}
-use Rattle.actions.specs.Formulas.{Formula, constant, apply, read, operand, form_of, formula_as, formula_at, formula_node, formula_below}
+use Rattle.actions.specs.Formulas.{constant, apply, read, operand, form_of, formula_as, formula_at, formula_below}
 use Rattle.actions.proofs.Evaluating.{opened_at}
 use Rattle.machine.specs.Links.{Whole}
 use Rattle.machine.proofs.Opening.{opens, opens_states}

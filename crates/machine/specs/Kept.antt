@@ -1,5 +1,5 @@
 -- Chains and reaches as an accepted design keeps them. Assumes nothing.
-use Rattle.std.specs.Prelude.{ℕ, Bool, cond, Some, None, Option}
+use Rattle.std.specs.Prelude.{ℕ, cond, Some, None, Option}
 use Rattle.lattice.specs.Bit.{bit}
 use Rattle.records.specs.declared.Command.{Command}
 use Rattle.records.specs.declared.Action.{Action}

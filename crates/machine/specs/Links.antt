@@ -1,6 +1,5 @@
 -- The chain from a link on, and how far from its end it is. Assumes nothing.
 use Rattle.std.specs.Prelude.{◌≡◌, ℕ, suc, ◌<◌, cond, ◌&&◌, Some, None, Option}
-use Rattle.records.specs.declared.Command.{Command}
 use Rattle.shape.specs.Rank.{lower, ranked}
 use Rattle.shape.specs.Shape.{Design, command_at, state_at, is_if, owner_of}
 use Rattle.design.specs.Chains.{Chain, stop, run, Spot, spot, spot_rank, chain_node, chain_at, is_below, is_fall}

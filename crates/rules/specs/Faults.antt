@@ -1,7 +1,7 @@
 -- What the refusal of a design says: its number and the place. Assumes nothing.
-use Rattle.std.specs.Prelude.{ℕ, List, [], ◌∷◌, Some, None, Option}
-use Rattle.lattice.specs.Faults.{Refusal, refuse, refusal as lattice_refusal, lattice_kind}
-use Rattle.records.specs.Faults.{refusal as line_refusal, text_kind}
+use Rattle.std.specs.Prelude.{ℕ, [], ◌∷◌, Some, None, Option}
+use Rattle.lattice.specs.Faults.{Refusal, refuse, refusal as lattice_refusal}
+use Rattle.records.specs.Faults.{refusal as line_refusal}
 use Rattle.rules.specs.declared.faults.DesignFault.{DesignFault}
 use Rattle.rules.specs.declared.faults.DesignFault.TheVariants.{Line, Lattice, ShortTable, Broken, WrongLength, Memory}
 use Rattle.rules.specs.declared.faults.Breach.{Breach}

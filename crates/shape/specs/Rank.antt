@@ -1,5 +1,5 @@
 -- What is worked out of a record from what was worked out of records of lower rank. Assumes nothing.
-use Rattle.std.specs.Prelude.{ℕ, zero, suc, Bool, cond, nat_lt}
+use Rattle.std.specs.Prelude.{ℕ, zero, suc, cond, nat_lt}
 
 module _ {I T : Type 0} (rank : I → ℕ) (none : T) (node : (I → T) → I → T) where
   -- what `done` says of a record of lower rank than i, and `none` of any other

@@ -1,6 +1,5 @@
 -- The records of a design, by their numbers, and what they say of each other. Assumes nothing.
 use Rattle.std.specs.Prelude.{ℕ, suc, ◌+◌, ◌-◌, max, Bool, true, false, cond, not, ◌&&◌, ◌||◌, List, Some, None, Option, ◌==◌, nat_lt, slice_index_or}
-use Rattle.std.specs.Option.{unwrap_or}
 use Rattle.search.specs.First.{first, some_below}
 use Rattle.records.specs.declared.Head.{Head}
 use Rattle.records.specs.declared.Port.{Port}

@@ -1,4 +1,4 @@
-use Rattle.std.proofs.Common.{cond, Some, sym, ap, ◌∙◌}
+use Rattle.std.proofs.Common.{Some, sym, ap, ◌∙◌}
 use Rattle.std.proofs.lemmas.Bool.{cond-false}
 use Rattle.shape.specs.Shape.{Design, state_at, holds}
 use Rattle.design.specs.Chains.{lowest_child}

@@ -1,9 +1,7 @@
-use Rattle.std.proofs.Common.{◌≡◌, ℕ, ◌+◌, ◌<◌, ◌≤◌, List, Some, sym, refl, ap, ◌∙◌, subst, arith}
+use Rattle.std.proofs.Common.{◌≡◌, ℕ, ◌<◌, List, Some, sym, refl, ap, ◌∙◌, subst, arith}
 use Rattle.lattice.specs.Model.{Joins}
-use Rattle.records.specs.declared.Command.{Command}
 use Rattle.records.specs.declared.Labeled.{Labeled}
 use Rattle.shape.specs.Shape.{Design, command_at}
-use Rattle.design.specs.Facts.{command_kept}
 use Rattle.design.specs.Model.{owned}
 use Rattle.design.proofs.Kept.{formed_none, formed_parts}
 use Rattle.actions.specs.Actions.{done}

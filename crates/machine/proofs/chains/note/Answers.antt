@@ -1,4 +1,4 @@
-use Rattle.std.proofs.Common.{◌+◌, take, sym, refl, ap, ◌∙◌, arith, length-set}
+use Rattle.std.proofs.Common.{take, sym, refl, ap, ◌∙◌, arith, length-set}
 use Rattle.machine.specs.Cycle.{noted}
 use Rattle.machine.proofs.Lists.{take_set, drop_set}
 use Rattle.machine.proofs.chains.note.Goals as goal

@@ -1,8 +1,7 @@
-use Rattle.std.proofs.Common.{◌≡◌, ℕ, ◌<◌, List, length, Some, None, Option, unwrap_or, sym, ap, ◌∙◌, subst, arith}
+use Rattle.std.proofs.Common.{◌≡◌, ℕ, ◌<◌, length, Some, None, Option, unwrap_or, sym, ap, ◌∙◌, subst, arith}
 use Rattle.lattice.specs.Faults.{Refusal}
 use Rattle.lattice.specs.Model.{Joins}
 use Rattle.rules.specs.Rules.{◌⊳◌}
-use Rattle.records.specs.declared.Labeled.{Labeled}
 use Rattle.shape.specs.Shape.{Design, state_at}
 use Rattle.design.specs.Chains.{chain_at}
 use Rattle.design.specs.Model.{owned}
@@ -11,7 +10,6 @@ use Rattle.design.proofs.Reaching.{first_within}
 use Rattle.actions.specs.Memory.{Memory, memory_of}
 use Rattle.machine.specs.Cycle.{Running, cycle}
 use Rattle.machine.specs.Lending.{exactly, at_least, step_verdict, left_by, laid}
-use Rattle.machine.specs.Links.{chain_of}
 use Rattle.machine.proofs.Good.{Good, both_none, good_cycle, goes_on as refused_no_more, step_lent}
 use Rattle.machine.proofs.Opening.{owner_first}
 use Rattle.machine.proofs.Owned.{Owned, owned as owned_chain}
