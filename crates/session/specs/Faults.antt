@@ -1,5 +1,5 @@
 -- What the refusal of a run says: its number and the place. Assumes nothing.
-use Rattle.std.specs.Prelude.{Some, None, Option}
+use Rattle.std.specs.Prelude.{None, Option}
 use Rattle.lattice.specs.Faults.{Refusal}
 use Rattle.rules.specs.Faults.{refusal as design_refusal}
 use Rattle.session.specs.declared.faults.SessionFault.{SessionFault}
