@@ -1,20 +1,21 @@
 #!/usr/bin/env python3
 """Brings the repository's own names in specs/, proofs/ and clauses to one spelling: words in snake_case, types in CamelCase.
 
-usage: python3 tools/snake_case.py [--dry]     at the top of the repository
+usage: python3 tools/snake_case.py [--dry | --anyway]     at the top of the repository
 
 It goes by text. A name with a hyphen is respelled where it is the repository's own: declared in the file, or imported from a
 module of one of its crates, or a field of one of its records, or a local variable. Left alone are the names of the library,
 the goals that the check makes (`returns-else-x : goal.returns-else-x`), and whatever stands in comments and strings.
-It says which names fall together with another, and then writes nothing.
+It says which names fall together with another, and then writes only with --anyway.
 """
 
 import os
 import re
 import sys
 
-# Names that would fall together with the library's.
+# Words of the library that files have under the name of another of its words.
 ALIASES = [("AllByRecursion", "All"), ("ContainsAt", "Has")]
+# Names that would fall together with the library's.
 OTHERWISE = {"bit-and": "bit_of_and", "bit-or": "bit_of_or"}
 NAME = re.compile(r"[A-Za-z_][A-Za-z0-9_']*(?:[-+][A-Za-z0-9_']+)+|[A-Za-z_][A-Za-z0-9_']*")
 USE = re.compile(r"(?:^|\s)(?:ghost )?use ([A-Za-z0-9_.+'-]+)\.\{([^}]*)\}", re.S)

@@ -6,7 +6,7 @@ use Rattle.std.proofs.Math.Arith.{bin_ind}
 use Rattle.std.specs.Int.Bits.{bit_and, bit_or}
 use Rattle.std.proofs.lemmas.Nat.{and_shr, or_shr, and_mod, or_mod}
 use Rattle.std.proofs.lemmas.Bool.{eqb-true, eq-eqb, ne_eqb, both_ways}
-use Rattle.std.proofs.lemmas.Bool.Decides.{nat_tests}
+use Rattle.std.proofs.Math.Dec.{eqb-suc-suc}
 use Rattle.lattice.specs.Bit.{bit, within}
 
 digit_and : (p q : ℕ) → p < 2 → q < 2 → (bit_and p q == 1) ≡ (p == 1 && q == 1)
@@ -40,7 +40,13 @@ pub bit_zero : (j : ℕ) → bit 0 j ≡ false
 bit_zero j = rw (zero-div (2 ^ j))
 
 digit_same : (p q : ℕ) → p < 2 → q < 2 → (p == 1) ≡ (q == 1) → p ≡ q
-digit_same p q hp hq e = grind (arith, nat_tests)
+digit_same zero zero hp hq e = refl
+digit_same zero (suc zero) hp hq e = let z : false ≡ true = e in cc
+digit_same zero (suc (suc q)) hp hq e = absurd (omega arith)
+digit_same (suc zero) zero hp hq e = let z : true ≡ false = e in cc
+digit_same (suc zero) (suc zero) hp hq e = refl
+digit_same (suc zero) (suc (suc q)) hp hq e = absurd (omega arith)
+digit_same (suc (suc p)) q hp hq e = absurd (omega arith)
 
 bit_low : (x : ℕ) → bit x 0 ≡ (x % 2 == 1)
 bit_low x = ap (λ (n : ℕ). nat_eq (n % 2) 1) (div-one x)
@@ -106,4 +112,4 @@ bit_power (suc n) (suc j) =
     ∙ suc_eqb j n
   where
     suc_eqb : (a b : ℕ) → (a == b) ≡ (suc a == suc b)
-    suc_eqb a b = grind (arith, nat_tests)
+    suc_eqb a b = sym (eqb-suc-suc a b)

@@ -4,8 +4,7 @@ use Rattle.std.proofs.Common.{sym, ap, ap₂, ◌∙◌, subst, ⊎_elim, arith,
 use Rattle.std.proofs.Math.Path.{fun_ext}
 use Rattle.std.proofs.lemmas.Nat.{and_mask}
 use Rattle.std.proofs.Math.Pow.{ones_lt, pow-lt}
-use Rattle.std.proofs.lemmas.Bool.{and_from, and_parts, and_cases, or_parts, not-false, both_ways, eqb-true, eqb-false, eq-eqb, ltb-true, ltb-false, lt-ltb, le-ltb, leb-true, leb-false, le-leb, lt-leb, cond-true, cases_lt, cases_eq}
-use Rattle.std.proofs.lemmas.Bool.Decides.{nat_tests}
+use Rattle.std.proofs.lemmas.Bool.{and_from, and_parts, and_cases, or_parts, not-false, both_ways, eqb-true, eqb-false, eq-eqb, ltb-true, ltb-false, lt-ltb, le-ltb, leb-true, leb-false, le-leb, lt-leb, cond-true, cases_lt, cases_eq, ne_eqb}
 use Rattle.lattice.specs.Bit.{bit, within}
 use Rattle.lattice.specs.Model.{Order, Bounds, Lawful, turned}
 use Rattle.lattice.specs.Bits.{bit_of_and, bit_of_or, bit_zero, bit_power, bit_above, bit_within, within_bits}
@@ -60,8 +59,37 @@ power_bit : (b : Bool) (n i : ℕ) → bit (cond b (2 ^ n) 0) i ≡ (b && i == n
 power_bit true n i = bit_power n i
 power_bit false n i = bit_zero i
 
+-- what a row has below n and at n, as three tests of it come out: below n, at n, and past it
+within_row : (p q r x b : Bool) → p ≡ true → q ≡ false → r ≡ true → ((p && x) || (b && q)) ≡ (r && x)
+within_row p q r x b e f g = rw (e, f, g) (go x b)
+  where
+    go : (x b : Bool) → ((true && x) || (b && false)) ≡ (true && x)
+    go true b = refl
+    go false true = refl
+    go false false = refl
+
+at_its_end : (p q r x b : Bool) → p ≡ false → q ≡ true → r ≡ true → x ≡ b → ((p && x) || (b && q)) ≡ (r && x)
+at_its_end p q r x b e f g h = rw (e, f, g, h) (go b)
+  where
+    go : (b : Bool) → ((false && b) || (b && true)) ≡ (true && b)
+    go true = refl
+    go false = refl
+
+past_it : (p q r x b : Bool) → p ≡ false → q ≡ false → r ≡ false → ((p && x) || (b && q)) ≡ (r && x)
+past_it p q r x b e f g = rw (e, f, g) (go b)
+  where
+    go : (b : Bool) → ((false && x) || (b && false)) ≡ (false && x)
+    go true = refl
+    go false = refl
+
 one_more : (i n : ℕ) (x b : Bool) → (i ≡ n → x ≡ b) → ((nat_lt i n && x) || (b && i == n)) ≡ (nat_lt i (suc n) && x)
-one_more i n x b h = grind (arith, nat_tests)
+one_more i n x b h =
+    ⊎_elim (λ l. within_row (nat_lt i n) (i == n) (nat_lt i (suc n)) x b (lt-ltb i n l) (ne_eqb i n (λ e. omega arith)) (lt-ltb i (suc n) (omega arith)))
+    (λ g.
+    ⊎_elim (λ e. at_its_end (nat_lt i n) (i == n) (nat_lt i (suc n)) x b (le-ltb i n g) (eq-eqb i n e) (lt-ltb i (suc n) (omega arith)) (h e))
+    (λ d. past_it (nat_lt i n) (i == n) (nat_lt i (suc n)) x b (le-ltb i n g) (ne_eqb i n d) (le-ltb i (suc n) (omega arith)))
+    (cases_eq i n))
+    (cases_lt i n)
 
 column_bit : (rows : ℕ → ℕ) (j n i : ℕ) → bit (column rows j n) i ≡ (nat_lt i n && bit (rows i) j)
 unfolding column
