@@ -59,24 +59,26 @@ power_bit : (b : Bool) (n i : ℕ) → bit (cond b (2 ^ n) 0) i ≡ (b && i == n
 power_bit true n i = bit_power n i
 power_bit false n i = bit_zero i
 
--- what a row has below n and at n, as three tests of it come out: below n, at n, and past it
-within_row : (p q r x b : Bool) → p ≡ true → q ≡ false → r ≡ true → ((p && x) || (b && q)) ≡ (r && x)
-within_row p q r x b e f g = rw (e, f, g) (go x b)
+-- One place more of a row, by where i stands: p is `i < n`, q is `i ≡ n`, and r is `i < n + 1`. Here i is below n, ..
+place_below : (p q r x b : Bool) → p ≡ true → q ≡ false → r ≡ true → ((p && x) || (b && q)) ≡ (r && x)
+place_below p q r x b e f g = rw (e, f, g) (go x b)
   where
     go : (x b : Bool) → ((true && x) || (b && false)) ≡ (true && x)
     go true b = refl
     go false true = refl
     go false false = refl
 
-at_its_end : (p q r x b : Bool) → p ≡ false → q ≡ true → r ≡ true → x ≡ b → ((p && x) || (b && q)) ≡ (r && x)
-at_its_end p q r x b e f g h = rw (e, f, g, h) (go b)
+-- .. it is n, ..
+place_at : (p q r x b : Bool) → p ≡ false → q ≡ true → r ≡ true → x ≡ b → ((p && x) || (b && q)) ≡ (r && x)
+place_at p q r x b e f g h = rw (e, f, g, h) (go b)
   where
     go : (b : Bool) → ((false && b) || (b && true)) ≡ (true && b)
     go true = refl
     go false = refl
 
-past_it : (p q r x b : Bool) → p ≡ false → q ≡ false → r ≡ false → ((p && x) || (b && q)) ≡ (r && x)
-past_it p q r x b e f g = rw (e, f, g) (go b)
+-- .. and it is past n
+place_past : (p q r x b : Bool) → p ≡ false → q ≡ false → r ≡ false → ((p && x) || (b && q)) ≡ (r && x)
+place_past p q r x b e f g = rw (e, f, g) (go b)
   where
     go : (b : Bool) → ((false && x) || (b && false)) ≡ (false && x)
     go true = refl
@@ -84,10 +86,10 @@ past_it p q r x b e f g = rw (e, f, g) (go b)
 
 one_more : (i n : ℕ) (x b : Bool) → (i ≡ n → x ≡ b) → ((nat_lt i n && x) || (b && i == n)) ≡ (nat_lt i (suc n) && x)
 one_more i n x b h =
-    ⊎_elim (λ l. within_row (nat_lt i n) (i == n) (nat_lt i (suc n)) x b (lt-ltb i n l) (ne_eqb i n (λ e. omega arith)) (lt-ltb i (suc n) (omega arith)))
+    ⊎_elim (λ l. place_below (nat_lt i n) (i == n) (nat_lt i (suc n)) x b (lt-ltb i n l) (ne_eqb i n (λ e. omega arith)) (lt-ltb i (suc n) (omega arith)))
     (λ g.
-    ⊎_elim (λ e. at_its_end (nat_lt i n) (i == n) (nat_lt i (suc n)) x b (le-ltb i n g) (eq-eqb i n e) (lt-ltb i (suc n) (omega arith)) (h e))
-    (λ d. past_it (nat_lt i n) (i == n) (nat_lt i (suc n)) x b (le-ltb i n g) (ne_eqb i n d) (le-ltb i (suc n) (omega arith)))
+    ⊎_elim (λ e. place_at (nat_lt i n) (i == n) (nat_lt i (suc n)) x b (le-ltb i n g) (eq-eqb i n e) (lt-ltb i (suc n) (omega arith)) (h e))
+    (λ d. place_past (nat_lt i n) (i == n) (nat_lt i (suc n)) x b (le-ltb i n g) (ne_eqb i n d) (le-ltb i (suc n) (omega arith)))
     (cases_eq i n))
     (cases_lt i n)
 
