@@ -1,13 +1,13 @@
 -- The entries of the members of a set, changed one after another. Assumes nothing.
-use Rattle.std.proofs.Common.{◌≡◌, ℕ, List, [], ◌∷◌, sym, ap, ◌∙◌}
-use Rattle.actions.specs.Memory.{change, change_each}
+use Rattle.std.proofs.Common.{◌≡◌, ℕ, List, [], sym, ap, ◌∙◌}
+use Rattle.actions.specs.Memory.{change_each}
 
 module _ {A : Type 0} (none : A) (place : ℕ → ℕ) (f : ℕ → A → A) where
-  -- the first member is done, and the others are left
-  pub change_first : (all rest : List ℕ) (t : ℕ) (xs ys : List A) → all ≡ t ∷ rest → ys ≡ change none (place t) (f t) xs → change_each none place f rest ys ≡ change_each none place f all xs
-  unfolding change_each
-  change_first all rest t xs ys e h = ap (change_each none place f rest) h ∙ sym (ap (λ ts. change_each none place f ts xs) e)
+  -- what is left to do on a list is what was to do on it at first
+  abbrev pub Left : List ℕ → List ℕ → List A → List A → Type 0
+  Left rest all xs was = change_each none place f rest xs ≡ change_each none place f all was
 
-  pub change_none : (all : List ℕ) (xs : List A) → all ≡ [] → change_each none place f all xs ≡ xs
+  -- nothing is left to do
+  pub change_none : (rest all : List ℕ) (xs was : List A) → Left rest all xs was → rest ≡ [] → xs ≡ change_each none place f all was
   unfolding change_each
-  change_none all xs e = ap (λ ts. change_each none place f ts xs) e
+  change_none rest all xs was h e = ap (λ r. change_each none place f r xs) (sym e) ∙ h

@@ -1,27 +1,29 @@
 -- What is kept of states, past the last state too. Assumes nothing.
-use Rattle.std.proofs.Common.{◌≡◌, ℕ, zero, suc, ◌+◌, ◌<◌, ◌≤◌, Bool, true, false, cond, not, ◌&&◌, ◌||◌, eqb, ltb, map, length, Some, None, Option, sym, refl, ap, ◌∙◌, ⊎_elim, arith}
+use Rattle.std.proofs.Common.{◌≡◌, ℕ, zero, suc, ◌+◌, ◌<◌, ◌≤◌, Bool, true, false, cond, not, ◌&&◌, ◌||◌, eqb, ltb, map, length, is_some, None, Option, sym, refl, ap, ◌∙◌, ⊎_elim, arith}
 use Rattle.std.specs.List.{range_with_len}
 use Rattle.std.proofs.lemmas.List.{get_or_past}
-use Rattle.std.proofs.lemmas.Bool.{and_parts, both_ways, cases_lt, cond-true, cond-false, le-ltb, lt-ltb, ltb-true, ne_eqb}
-use Rattle.search.specs.First.{first}
+use Rattle.std.proofs.lemmas.Bool.Decides.{nat_tests}
+use Rattle.std.proofs.lemmas.Bool.{and_parts, cases_lt, le-ltb, lt-ltb, ne_eqb}
 use Rattle.search.proofs.Firsts.{first_is}
 use Rattle.rules.specs.Rules.{names, linked, has_children}
 use Rattle.shape.specs.Shape.{Design, state_at, no_state, holds, given, is_child}
 use Rattle.design.specs.Chains.{lowest_child, moved, is_moved, is_below, union}
-use Rattle.design.specs.Facts.{state_kept, state_facts, no_state_facts}
-use Rattle.design.proofs.Kept.{states_linked}
+use Rattle.design.specs.Facts.{state_kept, state_facts}
+use Rattle.design.proofs.Kept.{formed_none, formed_parts, states_linked}
+use Rattle.design.specs.Verdict.{well_formed}
 use Rattle.design.proofs.Mapped.{set_same}
 use Rattle.design.proofs.Reaching.{below_after}
 
-module _ (d : Design) (links : linked d ≡ None) where
+module _ (d : Design) (formed : is_some (well_formed d) ≡ false) where
+  links : linked d ≡ None
+  links = (formed_parts d (formed_none d formed)).1
+
   abbrev n : ℕ
   n = d.head.states
 
   -- no state has a parent past the last state
   no_parent : (b : Bool) (o : Option ℕ) (u t : ℕ) → u < t → cond b (not (given o)) (names u o) ≡ true → holds o t ≡ false
-  no_parent b None u t l e = refl
-  no_parent true (Some p) u t l e = absurd (both_ways false refl e)
-  no_parent false (Some p) u t l e = ne_eqb p t (λ q. omega (arith, ltb-true p u e))
+  no_parent b o u t l e = grind (arith, nat_tests, l, e)
 
   leaf_past : (t : ℕ) → n ≤ t → has_children d t ≡ false
   leaf_past t l =
@@ -29,30 +31,24 @@ module _ (d : Design) (links : linked d ≡ None) where
       ∙ le-ltb n n (omega arith)
 
   pub kept_lowest : (t : ℕ) → (state_kept d t).lowest_child ≡ lowest_child d t
-  kept_lowest t =
-      ⊎_elim (λ l. ap (λ f. f.lowest_child) (cond-true (ltb t n) (state_facts d t) no_state_facts (lt-ltb t n l)))
-      (λ l. ap (λ f. f.lowest_child) (cond-false (ltb t n) (state_facts d t) no_state_facts (le-ltb t n l))
-      ∙ sym (cond-false (has_children d t) (Some (first (is_child d t) n)) None (leaf_past t l)))
-      (cases_lt t n)
+  kept_lowest t = ⊎_elim (λ l. rw (lt-ltb t n l) refl) (λ l. rw (le-ltb t n l, leaf_past t l) refl) (cases_lt t n)
 
 -- what is kept of a state that is there
 pub kept_state : (d : Design) (s : ℕ) → s < d.head.states → state_kept d s ≡ state_facts d s
-kept_state d s l = cond-true (ltb s d.head.states) (state_facts d s) no_state_facts (lt-ltb s d.head.states l)
+kept_state d s l = rw (lt-ltb s d.head.states l) refl
 
 no_sets : (a n : ℕ) → union (map (λ t. 0) (range_with_len a n)) ≡ 0
 no_sets a zero = refl
 no_sets a (suc n) = no_sets (a + 1) n
 
 none_of : (h e p b : Bool) → e ≡ false → p ≡ false → b ≡ false → (h && ((e || p) || b)) ≡ false
-none_of false e p b x y z = refl
-none_of true e p b x y z = ap (λ u. (u || p) || b) x ∙ ap (λ u. u || b) y ∙ z
+none_of h e p b x y z = grind (arith, x, y, z)
 
 -- a state past the last is above none, so a goto there moves nothing
-pub kept_moved : (d : Design) → linked d ≡ None → length d.states ≡ d.head.states → (s : ℕ) → (state_kept d s).moved ≡ moved d s
-kept_moved d links exact s =
+pub kept_moved : (d : Design) → is_some (well_formed d) ≡ false → length d.states ≡ d.head.states → (s : ℕ) → (state_kept d s).moved ≡ moved d s
+kept_moved d formed exact s =
     ⊎_elim (λ l. ap (λ f. f.moved) (kept_state d s l))
-    (λ l. ap (λ f. f.moved) (cond-false (ltb s n) (state_facts d s) no_state_facts (le-ltb s n l))
-    ∙ sym (set_same (is_moved d s (is_below d s)) (λ _. false) n (none l) ∙ no_sets 0 n)) (cases_lt s n)
+    (λ l. rw (le-ltb s n l) (sym (set_same (is_moved d s (is_below d s)) (λ _. false) n (none l) ∙ no_sets 0 n))) (cases_lt s n)
   where
     n : ℕ
     n = d.head.states
@@ -64,4 +60,4 @@ kept_moved d links exact s =
       where
         by : (b : Bool) → is_below d s t ≡ b → b ≡ false
         by false e = refl
-        by true e = absurd (omega (arith, below_after d links s t m e))
+        by true e = absurd (omega (arith, below_after d (formed_parts d (formed_none d formed)).1 s t m e))

@@ -8,7 +8,6 @@ use Rattle.records.specs.declared.Operator.{Operator}
 use Rattle.records.specs.declared.Operator.TheVariants.{Constant, Input, Read, Add, Subtract, And, Or, Xor, ShiftLeft, ShiftRight, Equal, Less}
 use Rattle.shape.specs.Rank.{ranked}
 use Rattle.shape.specs.Shape.{Design, port_at, expression_at}
-use Rattle.actions.specs.declared.expressions.Form.{Form}
 use Rattle.actions.specs.Memory.{no_cell, labeled, slot}
 use Rattle.actions.specs.Values.{applied, cut}
 
@@ -24,28 +23,26 @@ abbrev pub operand : (ℕ → Formula) → Option ℕ → Formula
 operand formula None = constant 0
 operand formula (Some n) = formula n
 
-abbrev pub form_of : Operator → Form
-form_of Constant = Form.Constant
-form_of Input = Form.Input
-form_of Read = Form.Read
-form_of Add = Form.Apply
-form_of Subtract = Form.Apply
-form_of And = Form.Apply
-form_of Or = Form.Apply
-form_of Xor = Form.Apply
-form_of ShiftLeft = Form.Apply
-form_of ShiftRight = Form.Apply
-form_of Equal = Form.Apply
-form_of Less = Form.Apply
+abbrev pub applied_as : (ℕ → Formula) → Expression → Formula
+applied_as formula x = apply x.op (operand formula (Some x.a)) (operand formula x.b)
 
-abbrev pub formula_as : Form → (ℕ → Formula) → Expression → Formula
-formula_as Form.Constant formula x = constant x.a
-formula_as Form.Input formula x = input x.a
-formula_as Form.Read formula x = read x.a (operand formula x.b)
-formula_as Form.Apply formula x = apply x.op (operand formula (Some x.a)) (operand formula x.b)
+-- the first three operators have no operands but an index
+abbrev pub formula_as : Operator → (ℕ → Formula) → Expression → Formula
+formula_as Constant formula x = constant x.a
+formula_as Input formula x = input x.a
+formula_as Read formula x = read x.a (operand formula x.b)
+formula_as Add formula x = applied_as formula x
+formula_as Subtract formula x = applied_as formula x
+formula_as And formula x = applied_as formula x
+formula_as Or formula x = applied_as formula x
+formula_as Xor formula x = applied_as formula x
+formula_as ShiftLeft formula x = applied_as formula x
+formula_as ShiftRight formula x = applied_as formula x
+formula_as Equal formula x = applied_as formula x
+formula_as Less formula x = applied_as formula x
 
 abbrev pub formula_node : Design → (ℕ → Formula) → ℕ → Formula
-formula_node d formula n = formula_as (form_of (expression_at d n).op) formula (expression_at d n)
+formula_node d formula n = formula_as (expression_at d n).op formula (expression_at d n)
 
 -- operands have smaller numbers than their expression
 abbrev pub formula_at : Design → ℕ → Formula

@@ -1,4 +1,5 @@
 pub mod Values
+pub mod Lent
 pub mod Memory
 pub mod Formulas
 pub mod Actions

@@ -1,14 +1,14 @@
 // What one command does: expressions, raises, and the five kinds of commands.
 #![tactic(auto)]
 
-mod changes;
+mod board;
 mod commands;
 mod expressions;
+mod memory;
 mod raises;
 mod values;
 mod ways;
 
-pub use commands::{run_fall, run_goto, run_if, run_set, run_tag};
-pub use expressions::{Board, NOTHING};
-pub use raises::NO_POINTER;
+pub use board::Board;
+pub use memory::Memory;
 pub use ways::{Reach, Way};

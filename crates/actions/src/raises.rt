@@ -1,146 +1,84 @@
 // Raises: a level is joined to those of all that a chain may reach.
-ghost use Rattle.std.specs.Prelude.{◌≡◌, ℕ, [], if◌then◌else◌, Some};
-ghost use Rattle.rules.specs.Rules.{cells_below};
+ghost use Rattle.std.specs.Prelude.{◌≡◌, if◌then◌else◌, Some};
 ghost use Rattle.shape.specs.Shape.{state_at, holds};
 ghost use Rattle.design.specs.Chains.{lowest_child};
 ghost use Rattle.design.specs.Model.{owned};
-ghost use Rattle.actions.specs.Actions.{pointer_after, raise as raise_all, move as moved_pointers};
-ghost use Rattle.actions.specs.Memory.{memory_of, raised};
+ghost use Rattle.actions.specs.Actions.{raise_registers, raise_pointers, raise as raise_all, move as moved_pointers};
+ghost use Rattle.actions.specs.Lent.{seen, SameLenders};
+ghost use Rattle.actions.specs.Memory.{raised, with_cells, with_pointers};
 
-use crate::changes::{Change, change_each};
-use crate::expressions::NOTHING;
+use crate::board::Board;
+use crate::memory::Memory;
 use crate::ways::Reach;
-use design::Accepted;
 use lattice::{Lattice, join_all};
+use members::Members;
 use records::{Labeled, Pointer};
 use shape::is_number;
 
-pub const NO_POINTER: Pointer = Pointer {
-    value: None,
-    level: 0,
-};
-
-fn raise_one<L: Lattice, T: Copy>(lattice: &L, k: u32, slot: Labeled<T>) -> Labeled<T>
+fn raised<L: Lattice, T: Copy>(lattice: &L, k: u32, slot: Labeled<T>) -> Labeled<T>
     ensures { result ≡ raised (L.Lattice.model lattice.now).joins k slot }
 {
     Labeled {
-        value: slot.value,
         level: join_all(lattice, &[slot.level, k]),
+        ..slot
     }
 }
 
-// The cells of dynamic registers, each the only one of its register.
-#[derive(Drop)]
-struct RaiseCells<'a, L> {
-    design: &'a Accepted<L>,
-    k: u32,
-}
-
-impl<L: Lattice> Change<Labeled<u32>> for RaiseCells<'_, L> {
-    ghost places = { λ x. cells_below (owned x.design.now.records) };
-
-    ghost becomes = { λ x t. raised (L.Lattice.model x.design.now.lattice).joins x.k };
-
-    fn place(&self, t: u32) -> u32 {
-        self.design.first_cell(t)
-    }
-
-    fn after(&self, t: u32, slot: Labeled<u32>) -> Labeled<u32> {
-        raise_one(self.design.lattice(), self.k, slot)
-    }
-}
-
-#[derive(Drop)]
-struct RaisePointers<'a, L> {
-    design: &'a Accepted<L>,
-    k: u32,
-}
-
-impl<L: Lattice> Change<Pointer> for RaisePointers<'_, L> {
-    ghost places = { λ x t. t };
-
-    ghost becomes = { λ x t. raised (L.Lattice.model x.design.now.lattice).joins x.k };
-
-    fn place(&self, t: u32) -> u32 {
-        t
-    }
-
-    fn after(&self, t: u32, slot: Pointer) -> Pointer {
-        raise_one(self.design.lattice(), self.k, slot)
-    }
-}
-
-// Joins k to the levels of all that is in a reach.
-pub(crate) fn raise<L: Lattice>(
-    design: &Accepted<L>,
-    k: u32,
-    reach: Reach,
-    cells: &mut [Labeled<u32>],
-    pointers: &mut [Pointer],
-)
-    ensures { memory_of cells.new pointers.new ≡ raise_all (L.Lattice.model design.now.lattice).joins (owned design.now.records) k reach (memory_of cells.old pointers.old) }
-{
-    change_each(&RaiseCells { design, k }, reach.registers, NOTHING, cells);
-    change_each(
-        &RaisePointers { design, k },
-        reach.pointers,
-        NO_POINTER,
-        pointers,
-    );
-}
-
-// The current child of a state t whose pointer a goto from state s moves.
-fn child_after<L>(design: &Accepted<L>, s: u32, target: u32, t: u32) -> Option<u32>
-    ensures { result ≡ (if holds (state_at (owned design.now.records) s).parent t then Some target else lowest_child (owned design.now.records) t) }
-{
-    if is_number(design.tables().state(s).parent, t) {
-        Some(target)
-    } else {
-        design.state_facts(t).lowest_child
-    }
-}
-
-// The pointers that a goto from state s moves.
-#[derive(Drop)]
-struct Move<'a, L> {
-    design: &'a Accepted<L>,
-    s: u32,
-    target: u32,
-    context: u32,
-}
-
-impl<L: Lattice> Change<Pointer> for Move<'_, L> {
-    ghost places = { λ x t. t };
-
-    ghost becomes = { λ x t _. pointer_after (L.Lattice.model x.design.now.lattice).joins (owned x.design.now.records) x.s x.target x.context t };
-
-    fn place(&self, t: u32) -> u32 {
-        t
-    }
-
-    fn after(&self, t: u32, slot: Pointer) -> Pointer {
-        Pointer {
-            value: child_after(self.design, self.s, self.target, t),
-            level: self.context,
+impl<L: Lattice> Board<'_, '_, L> {
+    // The cells of dynamic registers, each the only one of its register.
+    #[tactic(auto, unfolding(crate::specs::Memory::change_each))]
+    fn raise_cells(&self, k: u32, registers: u32, memory: &mut Memory<'_>)
+        ensures raised { seen memory.new ≡ with_cells (raise_registers (L.Lattice.model self.now.design.now.lattice).joins (owned self.now.design.now.records) k registers memory.old.cells.now) (seen memory.old) }
+        ensures lends { SameLenders memory.old memory.new }
+    {
+        for x in Members::of(registers) {
+            let j = self.design.first_cell(x);
+            memory.put_cell(j, raised(self.design.lattice(), k, memory.cell(j)));
         }
     }
-}
 
-// Moves the parent's pointer to the target, and has those of state s and of all states below it start anew.
-pub(crate) fn move_pointers<L: Lattice>(
-    design: &Accepted<L>,
-    s: u32,
-    target: u32,
-    context: u32,
-    pointers: &mut [Pointer],
-)
-    ensures { pointers.new ≡ (moved_pointers (L.Lattice.model design.now.lattice).joins (owned design.now.records) s target context (memory_of [] pointers.old)).pointers }
-{
-    let change = Move {
-        design,
-        s,
-        target,
-        context,
-    };
-    change_each(&change, design.state_facts(s).moved, NO_POINTER, pointers);
+    #[tactic(auto, unfolding(crate::specs::Memory::change_each))]
+    fn raise_pointers(&self, k: u32, states: u32, memory: &mut Memory<'_>)
+        ensures raised { seen memory.new ≡ with_pointers (raise_pointers (L.Lattice.model self.now.design.now.lattice).joins (owned self.now.design.now.records) k states memory.old.pointers.now) (seen memory.old) }
+        ensures lends { SameLenders memory.old memory.new }
+    {
+        for s in Members::of(states) {
+            memory.put_pointer(s, raised(self.design.lattice(), k, memory.pointer(s)));
+        }
+    }
+
+    // Joins k to the levels of all that is in a reach.
+    pub(crate) fn raise(&self, k: u32, reach: Reach, memory: &mut Memory<'_>)
+        ensures raised { seen memory.new ≡ raise_all (L.Lattice.model self.now.design.now.lattice).joins (owned self.now.design.now.records) k reach (seen memory.old) }
+        ensures lends { SameLenders memory.old memory.new }
+    {
+        self.raise_cells(k, reach.registers, memory);
+        self.raise_pointers(k, reach.pointers, memory);
+    }
+
+    // The current child of a state t whose pointer a goto from state s moves.
+    fn child_after(&self, s: u32, target: u32, t: u32) -> Option<u32>
+        ensures { result ≡ (if holds (state_at (owned self.now.design.now.records) s).parent t then Some target else lowest_child (owned self.now.design.now.records) t) }
+    {
+        if is_number(self.design.tables().state(s).parent, t) {
+            Some(target)
+        } else {
+            self.design.state_facts(t).lowest_child
+        }
+    }
+
+    // Moves the parent's pointer to the target, and has those of state s and of all states below it start anew.
+    #[tactic(auto, unfolding(crate::specs::Memory::change_each))]
+    pub(crate) fn move_pointers(&self, s: u32, target: u32, context: u32, memory: &mut Memory<'_>)
+        ensures moved { seen memory.new ≡ moved_pointers (L.Lattice.model self.now.design.now.lattice).joins (owned self.now.design.now.records) s target context (seen memory.old) }
+        ensures lends { SameLenders memory.old memory.new }
+    {
+        for t in Members::of(self.design.state_facts(s).moved) {
+            let pointer = Pointer {
+                value: self.child_after(s, target, t),
+                level: context,
+            };
+            memory.put_pointer(t, pointer);
+        }
+    }
 }

@@ -1,5 +1,5 @@
 // Arithmetic on values.
-ghost use Rattle.std.specs.Prelude.{◌≡◌, if◌then◌else◌, nat_lt};
+ghost use Rattle.std.specs.Prelude.{◌≡◌};
 ghost use Rattle.actions.specs.Values.{applied, cut as cut_to};
 
 use records::Operator;
@@ -15,18 +15,11 @@ pub(crate) fn apply(op: Operator, a: u32, b: u32) -> u32
         Operator::And => a & b,
         Operator::Or => a | b,
         Operator::Xor => a ^ b,
-        Operator::ShiftLeft => shift(b, a.wrapping_shl(b)),
-        Operator::ShiftRight => shift(b, a.wrapping_shr(b)),
+        Operator::ShiftLeft => a.unbounded_shl(b),
+        Operator::ShiftRight => a.unbounded_shr(b),
         Operator::Equal => u32::from(a == b),
         Operator::Less => u32::from(a < b),
     }
-}
-
-// A value shifted by less than its width; else nothing is left of it.
-fn shift(by: u32, shifted: u32) -> u32
-    ensures { result ≡ (if nat_lt by 32 then shifted else 0) }
-{
-    if by < 32 { shifted } else { 0 }
 }
 
 // A value cut to a width.

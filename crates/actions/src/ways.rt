@@ -1,4 +1,7 @@
 // Which of its other chains a command chose.
+ghost use Rattle.std.specs.Prelude.{◌≡◌};
+
+use design::CommandFacts;
 
 // Which chain runs before what follows a command, and in which context: none, its alt, a branch, or the chain of a child.
 #[derive(Clone, Copy)]
@@ -11,8 +14,19 @@ pub enum Way {
 }
 
 // What a chain may reach, as sets of registers and of states with pointers: number t is in a set when bit t is set.
-#[derive(Clone, Copy)]
+#[derive(Clone, Copy, Default)]
 pub struct Reach {
     pub registers: u32,
     pub pointers: u32,
+}
+
+impl From<CommandFacts> for Reach {
+    ghost from_gives = { λ facts r. r ≡ record { registers = facts.registers; pointers = facts.pointers } };
+
+    fn from(facts: CommandFacts) -> Reach {
+        Reach {
+            registers: facts.registers,
+            pointers: facts.pointers,
+        }
+    }
 }

@@ -1,19 +1,21 @@
 -- The reach of the chain from a command on is what a row of its state holds. Assumes nothing.
-use Rattle.std.proofs.Common.{◌≡◌, ℕ, zero, suc, ◌+◌, ◌-◌, ◌*◌, ◌<◌, ◌≤◌, Bool, true, false, cond, not, ◌&&◌, eqb, ltb, List, [], ◌∷◌, map, length, get_or, set, Some, None, Option, sym, refl, ap, ◌∙◌, subst, ⊎_elim, mul_comm, arith, get_or-set_other, get_or-set_same}
+use Rattle.std.proofs.Common.{◌≡◌, ℕ, zero, suc, ◌+◌, ◌-◌, ◌*◌, ◌<◌, ◌≤◌, Bool, true, false, cond, not, ◌&&◌, eqb, ltb, List, [], ◌∷◌, map, length, get_or, set, Some, None, Option, sym, refl, ap, ◌∙◌, mul_comm, arith, get_or-set_other, get_or-set_same}
 use Rattle.std.specs.List.{range_with_len}
 use Rattle.std.proofs.lemmas.Nat.{mul-add-lt}
-use Rattle.std.proofs.lemmas.Bool.{and_parts, or_cases, both_ways, eqb-true, ltb-true, lt-ltb, eq-eqb, ne_eqb, cases_eq, cond-true, cond-false, cond_both}
+use Rattle.std.proofs.lemmas.List.{get_or_past}
+use Rattle.std.proofs.lemmas.Bool.{and_parts, ltb-true, lt-ltb, cond-true}
 use Rattle.std.proofs.lemmas.Bool.Decides.{nat_tests}
 use Rattle.records.specs.declared.Command.{Command}
-use Rattle.search.specs.First.{first, some_below}
+use Rattle.search.specs.First.{first}
 use Rattle.shape.specs.Rank.{lower, ranked}
 use Rattle.rules.specs.Rules.{names, linked}
-use Rattle.shape.specs.Shape.{Design, command_at, state_at, given, is_if, is_first, links_to, owner_of, owner_node, chain_rank}
-use Rattle.rules.proofs.Ranking.{lower_same, ranked_is, Holds, held}
-use Rattle.design.specs.Chains.{Chain, stop, Spot, spot, spot_rank, link, chain_node, chain_at, is_below, under, below_node, is_fall, union, reach}
+use Rattle.shape.specs.Shape.{Design, no_state, command_at, state_at, given, is_if, links_to, owner_of, owner_node, chain_rank}
+use Rattle.rules.proofs.Ranking.{lower_same, ranked_is}
+use Rattle.search.proofs.Filling.{Holds, held}
+use Rattle.design.specs.Chains.{Chain, stop, Spot, spot, spot_rank, link, chain_node, chain_at, is_below, is_moved, moved, under, below_node, is_fall, union, reach}
 use Rattle.design.specs.Reaches.{link_reach, reach_node, row_reach}
 use Rattle.design.proofs.Kept.{states_linked}
-use Rattle.design.proofs.Mapped.{map_same}
+use Rattle.design.proofs.Mapped.{map_same, set_same}
 
 -- what opens as what is worked out by rank does is worked out by rank
 module _ {I T : Type 0} (rank : I → ℕ) (none : T) (node : (I → T) → I → T) (f : I → T) (opens : (i : I) → f i ≡ node (lower rank none node f i) i) where
@@ -36,11 +38,9 @@ owner_below d k some = go (suc k) k (omega arith)
     go : (fuel j : ℕ) → j < fuel → owner_of d j < n
     go zero j l = absurd (omega arith)
     go (suc fuel) j l =
-        subst (λ s. s < n) (sym (ranked_is (λ i. i) 0 (owner_node d) j))
-        (cond_both (some_below (is_first d j) n) (first (is_first d j) n) (lower (λ i. i) 0 (owner_node d) (owner_of d) j (first (links_to d j) j)) (λ s. s < n)
-        (λ e. ltb-true (first (is_first d j) n) n e)
-        (λ _. cond_both (ltb (first (links_to d j) j) j) (owner_of d (first (links_to d j) j)) 0 (λ s. s < n)
-        (λ e. go fuel (first (links_to d j) j) (omega (arith, ltb-true (first (links_to d j) j) j e))) (λ _. some)))
+        let opened = ranked_is (λ i. i) 0 (owner_node d) j in
+        let before = go fuel (first (links_to d j) j) in
+        grind (arith, nat_tests)
 
 -- the parent of a state comes before it
 abbrev Before : ℕ → Option ℕ → Type 0
@@ -49,7 +49,7 @@ Before t (Some p) = p < t
 
 before_if : (t : ℕ) (b : Bool) (o : Option ℕ) → cond b (not (given o)) (names t o) ≡ true → Before t o
 before_if t b None e = tt
-before_if t true (Some p) e = absurd (both_ways false refl e)
+before_if t true (Some p) e = cc
 before_if t false (Some p) e = ltb-true p t e
 
 parent_before : (d : Design) → linked d ≡ None → (t : ℕ) → t < d.head.states → Before t (state_at d t).parent
@@ -57,7 +57,9 @@ parent_before d links t l = before_if t (eqb t 0) (state_at d t).parent (and_par
 
 -- the first command of a state is a command
 pub first_within : (d : Design) → linked d ≡ None → (s : ℕ) → s < d.head.states → (state_at d s).first < d.head.commands
-first_within d links s l = ltb-true (state_at d s).first d.head.commands (and_parts _ _ (states_linked d links s l)).1
+first_within d links s l =
+    let kept = states_linked d links s l in
+    grind (arith, nat_tests)
 
 -- a state below s comes after s
 module _ (d : Design) (links : linked d ≡ None) (s : ℕ) where
@@ -65,11 +67,10 @@ module _ (d : Design) (links : linked d ≡ None) (s : ℕ) where
   After j = j < d.head.states → is_below d s j ≡ true → s < j
 
   parent_after : (j : ℕ) (o : Option ℕ) → j < d.head.states → Before j o → ((p : ℕ) → p < j → After p) → under s (lower (λ i. i) false (below_node d s) (is_below d s) j) o ≡ true → s < j
-  parent_after j None l b after h = absurd (both_ways false refl h)
+  parent_after j None l b after h = cc
   parent_after j (Some p) l b after h =
-      ⊎_elim (λ q. omega (arith, eqb-true p s q))
-      (λ q. omega (arith, after p b (omega arith) (sym (cond-true (ltb p j) (is_below d s p) false (lt-ltb p j b)) ∙ q)))
-      (or_cases (eqb p s) (cond (ltb p j) (is_below d s p) false) h)
+      let above = after p b in
+      grind (arith, nat_tests)
 
   after_fuel : (fuel j : ℕ) → j < fuel → After j
   after_fuel zero j m l e = absurd (omega arith)
@@ -79,6 +80,22 @@ module _ (d : Design) (links : linked d ≡ None) (s : ℕ) where
   pub below_after : (t : ℕ) → After t
   below_after t = after_fuel (suc t) t (omega arith)
 
+-- a union of empty sets
+no_sets : (a n : ℕ) → union (map (λ t. 0) (range_with_len a n)) ≡ 0
+no_sets a zero = refl
+no_sets a (suc n) = no_sets (a + 1) n
+
+-- past the last state a goto moves no pointer
+pub moved_past : (d : Design) → linked d ≡ None → length d.states ≡ d.head.states → (s : ℕ) → d.head.states ≤ s → moved d s ≡ 0
+moved_past d links long s past =
+    set_same (is_moved d s (is_below d s)) (λ _. false) d.head.states none ∙ no_sets 0 d.head.states
+  where
+    none : (t : ℕ) → t < d.head.states → is_moved d s (is_below d s) t ≡ false
+    none t l =
+        let absent : state_at d s ≡ no_state = get_or_past d.states s no_state (omega arith) in
+        let after = below_after d links s t l in
+        grind (arith, nat_tests)
+
 same_state : (a x y : ℕ) → ltb (a + x) (a + y) ≡ ltb x y
 same_state a x y = grind (arith, nat_tests)
 
@@ -86,17 +103,10 @@ rank_gap : (a b w x y : ℕ) → a < b → x < w → a * w + x < b * w + y
 rank_gap a b w x y l m = omega (arith, mul-add-lt a w x b l m, mul_comm b w)
 
 rank_small : (c j : ℕ) → cond (ltb j c) (c - j) (suc c) < c + 2
-rank_small c j = cond_both (ltb j c) (c - j) (suc c) (λ r. r < c + 2) (λ _. omega arith) (λ _. omega arith)
-
--- a union of empty sets
-no_sets : (a n : ℕ) → union (map (λ t. 0) (range_with_len a n)) ≡ 0
-no_sets a zero = refl
-no_sets a (suc n) = no_sets (a + 1) n
+rank_small c j = grind (arith, nat_tests)
 
 same_six : (o a b c e f a' b' c' e' f' : ℕ) → a ≡ a' → b ≡ b' → c ≡ c' → e ≡ e' → f ≡ f' → union (o ∷ a ∷ b ∷ c ∷ e ∷ f ∷ []) ≡ union (o ∷ a' ∷ b' ∷ c' ∷ e' ∷ f' ∷ [])
-same_six o a b c e f a' b' c' e' f' p q r s t =
-    let same : ◌≡◌ {A = List ℕ} (o ∷ a ∷ b ∷ c ∷ e ∷ f ∷ []) (o ∷ a' ∷ b' ∷ c' ∷ e' ∷ f' ∷ []) = cc in
-    ap union same
+same_six o a b c e f a' b' c' e' f' p q r s t = cc
 
 module _ (d : Design) (own : ℕ → Command → ℕ) where
   abbrev pub reach_of : ℕ → ℕ → ℕ
@@ -199,17 +209,15 @@ module _ (d : Design) (own : ℕ → Command → ℕ) (links : linked d ≡ None
 
   pub firsts_more : (s : ℕ) (xs : List ℕ) (v : ℕ) → s < length xs → v ≡ reaches s (state_at d s).first → Firsts d own (suc s) xs → Firsts d own s (set xs s v)
   firsts_more s xs v l e h t m w =
-      ⊎_elim (λ r. subst (λ i. get_or (set xs s v) i 0 ≡ reaches i (state_at d i).first) (sym r) (get_or-set_same xs s v 0 l ∙ e))
-      (λ ne. get_or-set_other xs s t v 0 ne ∙ h t (omega arith) w) (cases_eq t s)
+      let here = get_or-set_same xs s v 0 l in
+      let apart = get_or-set_other xs s t v 0 in
+      let before = h t in
+      grind (arith, nat_tests)
 
   pub reached_more : (s : ℕ) (xs ys row owners : List ℕ) → d.head.commands ≤ 256 → ((k : ℕ) → k < 256 → get_or ys k 0 ≡ cond (eqb (get_or owners k 0) s) (get_or row k 0) (get_or xs k 0)) → ((k : ℕ) → k < d.head.commands → get_or owners k 0 ≡ owner_of d k) → ((k : ℕ) → k < d.head.commands → get_or row k 0 ≡ reaches s k) → Reached d own (suc s) xs → Reached d own s ys
-  reached_more s xs ys row owners few put owns rows h k l m = ⊎_elim same apart (cases_eq (owner_of d k) s)
-    where
-      here : get_or ys k 0 ≡ cond (eqb (owner_of d k) s) (get_or row k 0) (get_or xs k 0)
-      here = put k (omega arith) ∙ ap (λ o. cond (eqb o s) (get_or row k 0) (get_or xs k 0)) (owns k l)
-
-      same : owner_of d k ≡ s → get_or ys k 0 ≡ reaches (owner_of d k) k
-      same e = here ∙ cond-true (eqb (owner_of d k) s) (get_or row k 0) (get_or xs k 0) (eq-eqb (owner_of d k) s e) ∙ rows k l ∙ ap (λ o. reaches o k) (sym e)
-
-      apart : (owner_of d k ≡ s → ⊥) → get_or ys k 0 ≡ reaches (owner_of d k) k
-      apart ne = here ∙ cond-false (eqb (owner_of d k) s) (get_or row k 0) (get_or xs k 0) (ne_eqb (owner_of d k) s ne) ∙ h k l (omega arith)
+  reached_more s xs ys row owners few put owns rows h k l m =
+      let placed = put k (omega arith) in
+      let owned = owns k l in
+      let own_row = rows k l in
+      let before = h k l in
+      grind (arith, nat_tests)

@@ -1,5 +1,5 @@
 -- What is worked out of an accepted design once and kept beside its records. Assumes nothing.
-use Rattle.std.specs.Prelude.{◌≡◌, ℕ, suc, cond, ltb, map, None, vec_items, nat_lt}
+use Rattle.std.specs.Prelude.{◌≡◌, ℕ, suc, cond, ltb, List, map, None, vec_items, nat_lt, slice_index}
 use Rattle.std.specs.List.{range_with_len}
 use Rattle.search.specs.First.{first}
 use Rattle.rules.specs.Rules.{cells_below}
@@ -24,6 +24,15 @@ command_facts d k =
       owner = owner_of d k;
       registers = register_reach d (chain_at d (owner_of d k) k);
       pointers = pointer_reach d (chain_at d (owner_of d k) k);
+    }
+
+-- the same, read in a row of each kind
+abbrev pub facts_in : (owners registers pointers : List ℕ) → ℕ → CommandFacts
+facts_in owners registers pointers k =
+    record {
+      owner = slice_index owners k;
+      registers = slice_index registers k;
+      pointers = slice_index pointers k;
     }
 
 -- the register of a cell; the cells of all registers are in one list, in register order

@@ -1,5 +1,5 @@
 -- When lent tables hold an accepted design, and else why they do not. Assumes nothing.
-use Rattle.std.specs.Prelude.{◌≡◌, ℕ, cond, [], ◌∷◌, length, take, Some, None, Option, nat_lt}
+use Rattle.std.specs.Prelude.{◌≡◌, ℕ, cond, [], ◌∷◌, length, take, None, Option, nat_lt}
 use Rattle.lattice.specs.Faults.{Refusal, refuse}
 use Rattle.lattice.specs.Model.{Joins}
 use Rattle.rules.specs.declared.faults.Kind.{Kind}
@@ -18,9 +18,9 @@ short d =
     ⊳ short_table expressions_kind (length d.expressions) d.head.expressions
     ⊳ short_table commands_kind (length d.commands) d.head.commands
 
-abbrev pub short_if : Option Kind → Option Refusal
-short_if None = None
-short_if (Some kind) = refuse 2 (kind_number kind ∷ [])
+-- what the kind of a table that is too short says
+abbrev pub too_short : Kind → Option Refusal
+too_short kind = refuse 2 (kind_number kind ∷ [])
 
 -- as many records as the head says; a table may be longer
 abbrev pub cut : Design → Design

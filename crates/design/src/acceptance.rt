@@ -1,65 +1,43 @@
-ghost use Rattle.std.specs.Prelude.{◌≡◌, IfOk, None};
+ghost use Rattle.std.specs.Prelude.{◌≡◌, length, take, IfOk};
 ghost use Rattle.lattice.specs.Faults.{Answers};
 ghost use Rattle.rules.specs.Faults.{refusal, kind_number};
-ghost use Rattle.rules.specs.Rules.{◌⊳◌};
 ghost use Rattle.shape.specs.View.{view};
 ghost use Rattle.design.specs.Facts.{WorkedOut};
 ghost use Rattle.design.specs.Model.{owned};
-ghost use Rattle.design.specs.Verdict.{short_table, short, short_if, cut, verdict};
+ghost use Rattle.design.specs.Verdict.{too_short, short_table, short, cut, verdict};
 
 use crate::accepted::Accepted;
 use crate::facts::work_out_facts;
+use crate::formed::Formed;
 use crate::owned::Records;
 use lattice::Lattice;
-use rules::{DesignFault, Kind, first_breach};
+use rules::{DesignFault, Kind, check};
 use shape::Tables;
 use std::alloc::{AllocError, Global};
 
-// A table that is shorter than the head says, after what was found before it.
-fn short_after(before: Option<Kind>, kind: Kind, len: usize, count: u32) -> Option<Kind>
-    ensures { short_if result ≡ (short_if before ⊳ short_table (kind_number kind) len count) }
+// As many records as the head says; a table may be longer. One that is shorter is refused by its kind.
+fn cut_table<T>(kind: Kind, table: &[T], count: u32) -> Result<&[T], Kind>
+    ensures { Answers too_short (short_table (kind_number kind) (length table.now) count) (λ t. t.now ≡ take count table.now) result }
 {
-    match before {
-        None if len < count as usize => Some(kind),
-        found => found,
+    let count = count as usize;
+    if table.len() < count {
+        return Err(kind);
     }
+    Ok(&table[..count])
 }
 
-fn first_short(tables: Tables<'_>) -> Option<Kind>
-    ensures { short_if result ≡ short (view tables.entry) }
+fn cut_tables<'a>(tables: Tables<'a>) -> Result<Tables<'a>, Kind>
+    ensures { Answers too_short (short (view tables.entry)) (λ t. view t ≡ cut (view tables.entry)) result }
 {
     let head = tables.head;
-    let found = short_after(None, Kind::Port, tables.ports.len(), head.ports);
-    let found = short_after(
-        found,
-        Kind::Register,
-        tables.registers.len(),
-        head.registers,
-    );
-    let found = short_after(found, Kind::State, tables.states.len(), head.states);
-    let found = short_after(
-        found,
-        Kind::Expression,
-        tables.expressions.len(),
-        head.expressions,
-    );
-    short_after(found, Kind::Command, tables.commands.len(), head.commands)
-}
-
-// As many records as the head says.
-fn cut_tables<'a>(tables: Tables<'a>) -> Tables<'a>
-    requires { short (view tables) ≡ None }
-    ensures { view result ≡ cut (view tables.entry) }
-{
-    let head = tables.head;
-    Tables {
+    Ok(Tables {
         head,
-        ports: &tables.ports[0..head.ports as usize],
-        registers: &tables.registers[0..head.registers as usize],
-        states: &tables.states[0..head.states as usize],
-        expressions: &tables.expressions[0..head.expressions as usize],
-        commands: &tables.commands[0..head.commands as usize],
-    }
+        ports: cut_table(Kind::Port, tables.ports, head.ports)?,
+        registers: cut_table(Kind::Register, tables.registers, head.registers)?,
+        states: cut_table(Kind::State, tables.states, head.states)?,
+        expressions: cut_table(Kind::Expression, tables.expressions, head.expressions)?,
+        commands: cut_table(Kind::Command, tables.commands, head.commands)?,
+    })
 }
 
 fn copy_records(heap: Global, tables: Tables<'_>) -> Result<Records, AllocError>
@@ -83,15 +61,10 @@ pub fn accept<L: Lattice + Drop>(
 ) -> Result<Accepted<L>, DesignFault>
     ensures { Answers refusal (verdict (L.Lattice.model lattice).joins (view tables.entry)) (λ a. (a.lattice ≡ lattice) × (owned a.records ≡ cut (view tables.entry)) × WorkedOut (cut (view tables.entry)) a.facts) result }
 {
-    if let Some(kind) = first_short(tables) {
-        return Err(DesignFault::ShortTable { kind });
-    }
-    let tables = cut_tables(tables);
-    if let Some(breach) = first_breach(&lattice, tables) {
-        return Err(DesignFault::Broken(breach));
-    }
+    let tables = cut_tables(tables).map_err(|kind| DesignFault::ShortTable { kind })?;
+    check(&lattice, tables)?;
     let records = copy_records(heap, tables)?;
-    let facts = work_out_facts(heap, tables)?;
+    let facts = work_out_facts(heap, Formed { tables })?;
     Ok(Accepted {
         lattice,
         records,

@@ -1,5 +1,6 @@
 // The accepted design, and what it keeps of its states, commands, registers and cells.
 ghost use Rattle.std.specs.Prelude.{◌≡◌, false, is_some};
+ghost use Rattle.std.proofs.Props.{props};
 ghost use Rattle.rules.specs.Rules.{cells_below};
 ghost use Rattle.shape.specs.View.{view};
 ghost use Rattle.design.specs.Facts.{WorkedOut, state_kept, command_kept, register_of};
@@ -16,7 +17,7 @@ pub struct Accepted<L> {
     pub(crate) lattice: L,
     pub(crate) records: Records,
     pub(crate) facts: Facts,
-    ghost worked: { ∥ WorkedOut (owned records) facts ∥₁ },
+    ghost worked: { WorkedOut (owned records) facts } by { Prim.hlevel props },
     ghost formed: { is_some (well_formed (owned records)) ≡ false },
     ghost exact: { Exact (owned records) },
 }
@@ -42,87 +43,65 @@ impl<L> Accepted<L> {
         }
     }
 
-    fn of_state(&self, s: u32) -> StateFacts
-        ensures { result ≡ state_kept (owned self.now.records) s }
-    {
-        let none = StateFacts {
-            children: 0,
-            descendants: 0,
-            lowest_child: None,
-            moved: 0,
-        };
-        record_at(&self.facts.states, s, none)
-    }
-
-    fn of_command(&self, k: u32) -> CommandFacts
-        ensures { result ≡ command_kept (owned self.now.records) k }
-    {
-        let none = CommandFacts {
-            owner: 0,
-            registers: 0,
-            pointers: 0,
-        };
-        record_at(&self.facts.commands, k, none)
-    }
-
     // What is worked out of state s; past the last state, nothing.
     pub fn state_facts(&self, s: u32) -> StateFacts
         ensures { result ≡ state_kept (owned self.now.records) s }
     {
-        self.of_state(s)
+        record_at(&self.facts.states, s, StateFacts::default())
     }
 
     // What is worked out of command k; past the last command, nothing.
     pub fn command_facts(&self, k: u32) -> CommandFacts
         ensures { result ≡ command_kept (owned self.now.records) k }
     {
-        self.of_command(k)
+        record_at(&self.facts.commands, k, CommandFacts::default())
     }
 
+    // Single facts, for those who need no more: each reads a field of its own.
     pub fn children(&self, s: u32) -> u32
         ensures { result ≡ (state_kept (owned self.now.records) s).children }
     {
-        self.of_state(s).children
+        self.state_facts(s).children
     }
 
     pub fn descendants(&self, s: u32) -> u32
         ensures { result ≡ (state_kept (owned self.now.records) s).descendants }
     {
-        self.of_state(s).descendants
+        self.state_facts(s).descendants
     }
 
     pub fn lowest_child(&self, s: u32) -> Option<u32>
         ensures { result ≡ (state_kept (owned self.now.records) s).lowest_child }
     {
-        self.of_state(s).lowest_child
+        self.state_facts(s).lowest_child
     }
 
     // The states whose pointers a goto in state s may move.
     pub fn moved(&self, s: u32) -> u32
         ensures { result ≡ (state_kept (owned self.now.records) s).moved }
     {
-        self.of_state(s).moved
+        self.state_facts(s).moved
     }
 
     // The state of a command.
     pub fn owner(&self, k: u32) -> u32
         ensures { result ≡ (command_kept (owned self.now.records) k).owner }
     {
-        self.of_command(k).owner
+        self.command_facts(k).owner
     }
 
     // The registers that the chain from command k on may reach.
     pub fn register_reach(&self, k: u32) -> u32
         ensures { result ≡ (command_kept (owned self.now.records) k).registers }
     {
-        self.of_command(k).registers
+        self.command_facts(k).registers
     }
 
     // The states whose pointers the chain from command k on may reach.
     pub fn pointer_reach(&self, k: u32) -> u32
         ensures { result ≡ (command_kept (owned self.now.records) k).pointers }
     {
-        self.of_command(k).pointers
+        self.command_facts(k).pointers
     }
 
     // The first cell of register x; past the last register, the number of all cells.

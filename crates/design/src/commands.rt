@@ -1,46 +1,40 @@
 // What is worked out of each command.
-ghost use Rattle.std.specs.Prelude.{◌≡◌, ◌<◌, ◌≤◌, map, length, IfOk, None};
+ghost use Rattle.std.specs.Prelude.{◌≡◌, map, IfOk};
 ghost use Rattle.std.specs.List.{range_with_len};
-ghost use Rattle.rules.specs.Rules.{sizes, linked};
+ghost use Rattle.std.proofs.Props.{props};
 ghost use Rattle.shape.specs.View.{view};
 ghost use Rattle.design.specs.Chains.{set_register, own_registers, own_pointers};
-ghost use Rattle.design.specs.Facts.{state_facts, command_facts};
+ghost use Rattle.design.specs.Facts.{state_facts, command_facts, facts_in};
 
 use crate::facts::{CommandFacts, StateFacts};
-use crate::reaches::{Own, work_out_reaches};
+use crate::formed::Formed;
+use crate::reaches::{Own, Row, work_out_reaches};
 use records::{Action, Command};
 use rules::owners;
-use shape::{Tables, is_enforced, record_at};
+use shape::{is_enforced, record_at};
 use std::alloc::{AllocError, Global};
 
 // The dynamic registers that are set.
 #[derive(Drop)]
 struct Registers<'a> {
-    tables: Tables<'a>,
+    formed: Formed<'a>,
 }
 
-fn set_register(tables: Tables<'_>, x: Option<u32>) -> u32
-    requires { length tables.registers.now ≤ 32 }
-    ensures { result ≡ set_register (view tables.entry) x }
+fn set_register(formed: Formed<'_>, x: Option<u32>) -> u32
+    ensures { result ≡ set_register (view formed.entry.tables) x }
 {
-    let Some(register) = x else {
-        return 0;
-    };
-    if is_enforced(tables.register(register).mode) {
-        0
-    } else {
-        1 << register
+    match x {
+        Some(register) if !is_enforced(formed.tables.register(register).mode) => 1 << register,
+        _ => 0,
     }
 }
 
 impl Own for Registers<'_> {
-    ghost own = { λ x. own_registers (view x.tables) };
-
-    ghost can = { λ x s. length x.tables.registers.now ≤ 32 };
+    ghost own = { λ x. own_registers (view x.formed.tables) };
 
     fn reached(&self, s: u32, command: Command) -> u32 {
         match command.action {
-            Action::Set => set_register(self.tables, command.x),
+            Action::Set => set_register(self.formed, command.x),
             _ => 0,
         }
     }
@@ -49,44 +43,52 @@ impl Own for Registers<'_> {
 // The pointers that gotos move.
 #[derive(Drop)]
 struct Pointers<'a, 'b> {
-    tables: Tables<'a>,
+    formed: Formed<'a>,
     states: &'b [StateFacts],
+    ghost worked: { states.now ≡ map (state_facts (view formed.tables)) (range_with_len 0 formed.tables.head.states) } by { Prim.hlevel props },
 }
 
 impl Own for Pointers<'_, '_> {
-    ghost own = { λ x. own_pointers (view x.tables) };
-
-    ghost can = { λ x s. (s < x.tables.head.states) × (x.states.now ≡ map (state_facts (view x.tables)) (range_with_len 0 x.tables.head.states)) };
+    ghost own = { λ x. own_pointers (view x.formed.tables) };
 
     fn reached(&self, s: u32, command: Command) -> u32 {
         match command.action {
-            Action::Goto => self.states[s as usize].moved,
+            Action::Goto => record_at(self.states, s, StateFacts::default()).moved,
             _ => 0,
         }
     }
 }
 
+// The facts of the commands below `count`, from a row of each kind.
+fn collect_facts(
+    heap: Global,
+    count: u32,
+    owners: &Row,
+    registers: &Row,
+    pointers: &Row,
+) -> Result<Vec<CommandFacts>, AllocError>
+    ensures { IfOk result (λ v. v.items ≡ map (facts_in owners.now registers.now pointers.now) (range_with_len 0 count)) }
+{
+    (0..count)
+        .map(|k| CommandFacts {
+            owner: record_at(owners, k, 0),
+            registers: record_at(registers, k, 0),
+            pointers: record_at(pointers, k, 0),
+        })
+        .collect(heap)
+}
+
 pub(crate) fn work_out_commands(
     heap: Global,
-    tables: Tables<'_>,
+    formed: Formed<'_>,
     states: &[StateFacts],
 ) -> Result<Vec<CommandFacts>, AllocError>
-    requires sized { sizes (view tables) ≡ None }
-    requires links { linked (view tables) ≡ None }
-    requires few { length tables.registers.now ≤ 32 }
-    requires worked { states.now ≡ map (state_facts (view tables)) (range_with_len 0 tables.head.states) }
-    ensures { IfOk result (λ v. v.items ≡ map (command_facts (view tables.entry)) (range_with_len 0 tables.entry.head.commands)) }
+    requires { states.now ≡ map (state_facts (view formed.tables)) (range_with_len 0 formed.tables.head.states) }
+    ensures { IfOk result (λ v. v.items ≡ map (command_facts (view formed.entry.tables)) (range_with_len 0 formed.entry.tables.head.commands)) }
 {
+    let tables = formed.tables;
     let owners = owners(tables);
-    let registers = work_out_reaches(&Registers { tables }, tables, &owners);
-    let pointers = work_out_reaches(&Pointers { tables, states }, tables, &owners);
-    let mut facts = Vec::new(heap);
-    for k in 0..tables.head.commands {
-        facts.push(CommandFacts {
-            owner: record_at(&owners, k, 0),
-            registers: record_at(&registers, k, 0),
-            pointers: record_at(&pointers, k, 0),
-        })?;
-    }
-    Ok(facts)
+    let registers = work_out_reaches(&Registers { formed }, formed, &owners);
+    let pointers = work_out_reaches(&Pointers { formed, states }, formed, &owners);
+    collect_facts(heap, tables.head.commands, &owners, &registers, &pointers)
 }

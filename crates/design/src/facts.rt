@@ -1,17 +1,16 @@
 // What an accepted design keeps beside its records, worked out once. Sets are bits: number t is in a set when bit t is set.
-ghost use Rattle.std.specs.Prelude.{◌≡◌, ◌≤◌, length, IfOk, None};
-ghost use Rattle.rules.specs.Rules.{sizes, linked};
+ghost use Rattle.std.specs.Prelude.{IfOk};
 ghost use Rattle.shape.specs.View.{view};
 ghost use Rattle.design.specs.Facts.{WorkedOut};
 
 use crate::cells::{work_out_cells, work_out_firsts};
 use crate::commands::work_out_commands;
+use crate::formed::Formed;
 use crate::states::work_out_states;
-use shape::Tables;
 use std::alloc::{AllocError, Global};
 
 // Of a state: its children, its descendants and its lowest child, and the states whose pointers a goto in it may move.
-#[derive(Clone, Copy)]
+#[derive(Clone, Copy, PartialEq, Eq, Debug, Default)]
 pub struct StateFacts {
     pub children: u32,
     pub descendants: u32,
@@ -20,7 +19,7 @@ pub struct StateFacts {
 }
 
 // Of a command: its state, and the registers and the pointers that the chain from it on may reach.
-#[derive(Clone, Copy)]
+#[derive(Clone, Copy, PartialEq, Eq, Debug, Default)]
 pub struct CommandFacts {
     pub owner: u32,
     pub registers: u32,
@@ -36,16 +35,13 @@ pub struct Facts {
     pub(crate) cells: Vec<u32>,
 }
 
-pub(crate) fn work_out_facts(heap: Global, tables: Tables<'_>) -> Result<Facts, AllocError>
-    requires sized { sizes (view tables) ≡ None }
-    requires links { linked (view tables) ≡ None }
-    requires few { length tables.registers.now ≤ 32 }
-    ensures { IfOk result (WorkedOut (view tables.entry)) }
+pub(crate) fn work_out_facts(heap: Global, formed: Formed<'_>) -> Result<Facts, AllocError>
+    ensures { IfOk result (WorkedOut (view formed.entry.tables)) }
 {
-    let states = work_out_states(heap, tables)?;
-    let commands = work_out_commands(heap, tables, &states)?;
-    let firsts = work_out_firsts(heap, tables)?;
-    let cells = work_out_cells(heap, tables)?;
+    let states = work_out_states(heap, formed)?;
+    let commands = work_out_commands(heap, formed, &states)?;
+    let firsts = work_out_firsts(heap, formed)?;
+    let cells = work_out_cells(heap, formed)?;
     Ok(Facts {
         states,
         commands,

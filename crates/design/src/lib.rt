@@ -6,6 +6,7 @@ mod accepted;
 mod cells;
 mod commands;
 mod facts;
+mod formed;
 mod owned;
 mod reaches;
 mod sets;

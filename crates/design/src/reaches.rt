@@ -1,50 +1,41 @@
 // What the chain from each command on may reach.
-ghost use Rattle.std.specs.Prelude.{◌≡◌, ℕ, ◌<◌, ◌≤◌, false, if◌then◌else◌, None, nat_eq, nat_lt, slice_index, slice_index_or};
+ghost use Rattle.std.specs.Prelude.{◌≡◌, ℕ, ◌<◌, false, if◌then◌else◌, nat_eq, nat_lt, slice_index, slice_index_or};
 ghost use Rattle.records.specs.declared.Command.{Command as CommandRecord};
-ghost use Rattle.rules.specs.Rules.{sizes, linked};
 ghost use Rattle.shape.specs.Shape.{is_if, owner_of};
 ghost use Rattle.shape.specs.View.{view};
 ghost use Rattle.design.specs.Chains.{is_fall, reach, chain_at};
 ghost use Rattle.design.specs.Reaches.{link_reach, command_reach, row_reach};
 
-use crate::sets::{MOST_STATES, union_below, union_of};
-use crate::states::{Below, work_out_below};
+use crate::formed::Formed;
+use crate::sets::{union_below, union_of};
+use crate::states::{Below, MOST_STATES, work_out_below};
 use records::{Action, Command};
 use rules::MOST_RECORDS;
 use search::Amount;
-use shape::{Tables, is_if, record_at};
+use shape::{is_if, record_at};
 
-// A set for each command.
+// A set for each command, empty past the last. An array, as the owners that the rules work out, with which it goes.
 pub(crate) type Row = [u32; MOST_RECORDS];
 
-// What a command in state s reaches by itself.
+// What a command in state s reaches by itself. A trait and no closure, so that its meaning is stated and proved once, and not
+// at each call that passes it on.
 pub(crate) trait Own {
     ghost own: { Self → ℕ → CommandRecord → ℕ };
 
-    // What is asked of a state.
-    ghost can: { Self → ℕ → Type 0 };
-
     fn reached(&self, s: u32, command: Command) -> u32
-        requires { can self.now s }
         ensures { result ≡ own self.now s command };
 }
 
-pub(crate) fn is_fall(action: Action) -> bool
+fn is_fall(action: Action) -> bool
     ensures { result ≡ is_fall action }
 {
-    match action {
-        Action::Fall => true,
-        _ => false,
-    }
+    action == Action::Fall
 }
 
 fn link_reach(row: &Row, field: Option<u32>) -> u32
     ensures { result ≡ link_reach (λ j. slice_index row.now j) field }
 {
-    match field {
-        Some(m) => record_at(row, m, 0),
-        None => 0,
-    }
+    field.map_or(0, |m| record_at(row, m, 0))
 }
 
 // Only the fields of an if are branches.
@@ -60,7 +51,6 @@ fn branch_reach(row: &Row, action: Action, field: Option<u32>) -> u32
 
 // The reach from a command in state s on, from the reaches of later commands and, in `falls`, of the states below.
 fn command_reach<O: Own>(own: &O, row: &Row, s: u32, command: Command, falls: u32) -> u32
-    requires { O.Own.can own.now s }
     ensures { result ≡ command_reach (O.Own.own own.now s) falls (λ j. slice_index row.now j) command }
 {
     let action = command.action;
@@ -76,10 +66,10 @@ fn command_reach<O: Own>(own: &O, row: &Row, s: u32, command: Command, falls: u3
 }
 
 // The reach from each command on, as a command of state s.
-fn work_out_row<O: Own>(own: &O, tables: Tables<'_>, s: u32, falls: u32) -> Row
-    requires { (O.Own.can own.now s) × (tables.head.commands ≤ 256) }
-    ensures { (k : ℕ) → slice_index result k ≡ (if nat_lt k tables.entry.head.commands then row_reach (view tables.entry) (O.Own.own own.now s) falls k else 0) }
+fn work_out_row<O: Own>(own: &O, formed: Formed<'_>, s: u32, falls: u32) -> Row
+    ensures { (k : ℕ) → slice_index result k ≡ (if nat_lt k formed.entry.tables.head.commands then row_reach (view formed.entry.tables) (O.Own.own own.now s) falls k else 0) }
 {
+    let tables = formed.tables;
     let mut row = [0; MOST_RECORDS];
     for k in (0..tables.head.commands).rev() {
         row[k as usize] = command_reach(own, &row, s, tables.command(k), falls);
@@ -108,34 +98,27 @@ impl Amount for Falls<'_, '_> {
     }
 }
 
-// The row where a command is of state s, and what was there before elsewhere.
-fn put_own(before: &Row, row: &Row, owners: &Row, s: u32) -> Row
-    ensures { (k : ℕ) → k < 256 → slice_index result k ≡ (if nat_eq (slice_index owners.now k) s then slice_index row.now k else slice_index before.now k) }
+// Puts the reaches of the commands of state s, as their row has them. By index: with `array::from_fn` the proof did not close.
+fn put_own(reaches: &mut Row, row: &Row, owners: &Row, s: u32)
+    ensures { (k : ℕ) → k < 256 → slice_index reaches.new k ≡ (if nat_eq (slice_index owners.now k) s then slice_index row.now k else slice_index reaches.old k) }
 {
-    let mut all = [0; MOST_RECORDS];
-    for k in 0..256u32 {
-        let mine = record_at(owners, k, 0) == s;
-        all[k as usize] = if mine {
-            record_at(row, k, 0)
-        } else {
-            record_at(before, k, 0)
-        };
+    for k in 0..MOST_RECORDS {
+        if owners[k] == s {
+            reaches[k] = row[k];
+        }
     }
-    all
 }
 
 // The reach of the chain from each command on. A state comes after the states below it, whose chains its falls reach.
-pub(crate) fn work_out_reaches<O: Own>(own: &O, tables: Tables<'_>, owners: &Row) -> Row
-    requires sized { sizes (view tables) ≡ None }
-    requires links { linked (view tables) ≡ None }
-    requires able { (s : ℕ) → s < tables.head.states → O.Own.can own.now s }
-    requires owned { (k : ℕ) → k < tables.head.commands → slice_index owners.now k ≡ owner_of (view tables) k }
-    ensures { (k : ℕ) → k < tables.entry.head.commands → slice_index result k ≡ reach tables.entry.head.states (O.Own.own own.now) (chain_at (view tables.entry) (owner_of (view tables.entry) k) k) }
+pub(crate) fn work_out_reaches<O: Own>(own: &O, formed: Formed<'_>, owners: &Row) -> Row
+    requires { (k : ℕ) → k < formed.tables.head.commands → slice_index owners.now k ≡ owner_of (view formed.tables) k }
+    ensures { (k : ℕ) → k < formed.entry.tables.head.commands → slice_index result k ≡ reach formed.entry.tables.head.states (O.Own.own own.now) (chain_at (view formed.entry.tables) (owner_of (view formed.entry.tables) k) k) }
 {
+    let tables = formed.tables;
     let mut firsts = [0; MOST_STATES];
     let mut reaches = [0; MOST_RECORDS];
     for s in (0..tables.head.states).rev() {
-        let below = work_out_below(tables, s);
+        let below = work_out_below(formed, s);
         let falls = union_below(
             &Falls {
                 below: &below,
@@ -143,9 +126,9 @@ pub(crate) fn work_out_reaches<O: Own>(own: &O, tables: Tables<'_>, owners: &Row
             },
             tables.head.states,
         );
-        let row = work_out_row(own, tables, s, falls);
+        let row = work_out_row(own, formed, s, falls);
         firsts[s as usize] = record_at(&row, tables.state(s).first, 0);
-        reaches = put_own(&reaches, &row, owners, s);
+        put_own(&mut reaches, &row, owners, s);
     }
     reaches
 }

@@ -1,32 +1,30 @@
 // Sets of numbers below 32, as sets of owners: number t is in the set when bit t is set.
 ghost use Rattle.std.specs.Prelude.{◌≡◌, ◌%◌, ◌^◌, ◌≤◌, map, if◌then◌else◌};
 ghost use Rattle.std.specs.List.{range_with_len};
+ghost use Rattle.lattice.specs.Sets.{owners_joins};
 ghost use Rattle.design.specs.Chains.{union, set_where};
 
-use lattice::{Owners, join_all};
 use search::{Amount, Test};
 
-pub(crate) const MOST_STATES: usize = 32;
+fn union(a: u32, b: u32) -> u32
+    ensures { result ≡ (owners_joins 32).join a b }
+{
+    a | b
+}
 
 pub(crate) fn union_of(sets: &[u32]) -> u32
     ensures { result ≡ union sets.now }
 {
-    match Owners::new(32) {
-        Ok(owners) => join_all(&owners, sets),
-        Err(_) => 0,
-    }
+    sets.iter().fold(0, |all, set| union(all, *set))
 }
 
 // The union of the sets of the numbers below `count`.
 pub(crate) fn union_below<A: Amount>(of: &A, count: u32) -> u32
-    requires { count ≤ 32 }
     ensures { result ≡ union (map (A.Amount.amounts of.now) (range_with_len 0 count)) }
 {
-    let mut sets = [0; MOST_STATES];
-    for k in 0..count {
-        sets[k as usize] = of.amount(k);
-    }
-    union_of(&sets[0..count as usize])
+    (0..count)
+        .map(|k| of.amount(k))
+        .fold(0, |all, set| union(all, set))
 }
 
 // The set of a number alone where it passes, and else the empty set.

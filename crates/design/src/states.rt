@@ -6,29 +6,30 @@ ghost use Rattle.design.specs.Chains.{under, is_below, is_moved, lowest_child};
 ghost use Rattle.design.specs.Facts.{state_facts};
 
 use crate::facts::StateFacts;
-use crate::sets::{MOST_STATES, set_where};
+use crate::formed::Formed;
+use crate::sets::set_where;
 use rules::ChildOf;
 use search::{Test, first_below};
 use shape::{Tables, is_number, record_at};
 use std::alloc::{AllocError, Global};
 
+pub(crate) const MOST_STATES: usize = 32;
+
+// Which states are in a set; an array, since each is worked out of those before it.
 pub(crate) type Below = [bool; MOST_STATES];
 
 // A state with this parent is below state s.
 fn is_under(below: &Below, s: u32, parent: Option<u32>) -> bool
     ensures { result ≡ under s (λ j. get_or below.now j false) parent }
 {
-    match parent {
-        Some(p) => (p == s) | record_at(below, p, false),
-        None => false,
-    }
+    parent.is_some_and(|p| (p == s) | record_at(below, p, false))
 }
 
 // Which states are below state s.
-pub(crate) fn work_out_below(tables: Tables<'_>, s: u32) -> Below
-    requires { tables.head.states ≤ 32 }
-    ensures { (t : ℕ) → slice_index_or result t false ≡ (if nat_lt t tables.entry.head.states then is_below (view tables.entry) s t else false) }
+pub(crate) fn work_out_below(formed: Formed<'_>, s: u32) -> Below
+    ensures { (t : ℕ) → slice_index_or result t false ≡ (if nat_lt t formed.entry.tables.head.states then is_below (view formed.entry.tables) s t else false) }
 {
+    let tables = formed.tables;
     let mut below = [false; MOST_STATES];
     for t in 0..tables.head.states {
         below[t as usize] = is_under(&below, s, tables.state(t).parent);
@@ -38,7 +39,7 @@ pub(crate) fn work_out_below(tables: Tables<'_>, s: u32) -> Below
 
 // The states of a set.
 #[derive(Drop)]
-pub(crate) struct Among<'a> {
+struct Among<'a> {
     states: &'a Below,
 }
 
@@ -54,12 +55,7 @@ impl Test for Among<'_> {
 fn lowest_child(tables: Tables<'_>, s: u32) -> Option<u32>
     ensures { result ≡ lowest_child (view tables.entry) s }
 {
-    let child = first_below(&ChildOf { tables, s }, tables.head.states);
-    if child < tables.head.states {
-        Some(child)
-    } else {
-        None
-    }
+    first_below(&ChildOf { tables, s }, tables.head.states)
 }
 
 // The states whose pointers a goto in state s may move.
@@ -80,12 +76,12 @@ impl Test for Moved<'_, '_> {
     }
 }
 
-fn work_out_state(tables: Tables<'_>, s: u32) -> StateFacts
-    requires { tables.head.states ≤ 32 }
-    ensures { result ≡ state_facts (view tables.entry) s }
+fn work_out_state(formed: Formed<'_>, s: u32) -> StateFacts
+    ensures { result ≡ state_facts (view formed.entry.tables) s }
 {
+    let tables = formed.tables;
     let count = tables.head.states;
-    let below = work_out_below(tables, s);
+    let below = work_out_below(formed, s);
     StateFacts {
         children: set_where(&ChildOf { tables, s }, count),
         descendants: set_where(&Among { states: &below }, count),
@@ -103,14 +99,11 @@ fn work_out_state(tables: Tables<'_>, s: u32) -> StateFacts
 
 pub(crate) fn work_out_states(
     heap: Global,
-    tables: Tables<'_>,
+    formed: Formed<'_>,
 ) -> Result<Vec<StateFacts>, AllocError>
-    requires { tables.head.states ≤ 32 }
-    ensures { IfOk result (λ v. v.items ≡ map (state_facts (view tables.entry)) (range_with_len 0 tables.entry.head.states)) }
+    ensures { IfOk result (λ v. v.items ≡ map (state_facts (view formed.entry.tables)) (range_with_len 0 formed.entry.tables.head.states)) }
 {
-    let mut facts = Vec::new(heap);
-    for s in 0..tables.head.states {
-        facts.push(work_out_state(tables, s))?;
-    }
-    Ok(facts)
+    (0..formed.tables.head.states)
+        .map(|s| work_out_state(formed, s))
+        .collect(heap)
 }

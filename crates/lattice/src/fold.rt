@@ -8,9 +8,7 @@ pub fn join_all<L: Lattice>(lattice: &L, levels: &[u32]) -> u32
     ensures value { result ≡ joined (L.Lattice.model lattice.now).joins levels.now }
     ensures least { Levels (L.Lattice.model lattice.now).joins levels.now → Least (L.Lattice.model lattice.now).joins levels.now result }
 {
-    let mut all = lattice.bottom();
-    for level in levels {
-        all = lattice.join(all, *level);
-    }
-    all
+    levels
+        .iter()
+        .fold(lattice.bottom(), |all, level| lattice.join(all, *level))
 }

@@ -4,7 +4,7 @@ ghost use Rattle.lattice.specs.Faults.{refusal, numbered};
 use crate::LatticeFault;
 
 impl LatticeFault {
-    // The number of the refusal.
+    // The number of the refusal. A method, since a conversion into a number would not say which.
     pub fn number(&self) -> u32
         ensures { numbered (refusal self.now) ≡ Some result }
     {

@@ -1,6 +1,6 @@
-ghost use Rattle.std.specs.Prelude.{◌≡◌, ◌^◌, ◌<◌};
+ghost use Rattle.std.specs.Prelude.{◌≡◌, ◌+◌, ◌≤◌, true};
 ghost use Rattle.lattice.specs.Faults.{Answers, refusal};
-ghost use Rattle.lattice.specs.Pairs.{pair_model, pair_verdict, Shift, paired, left_of, right_of};
+ghost use Rattle.lattice.specs.Pairs.{pair_model, pair_verdict, paired, left_of, right_of};
 ghost use Rattle.lattice.specs.PairLaws.{pair_lawful};
 
 use crate::{Lattice, LatticeFault};
@@ -9,9 +9,10 @@ const MOST_BITS: u32 = 32;
 
 // Pairs of levels, ordered part by part: the right part's code in the low bits, the left part's above.
 #[derive(Drop)]
-pub struct Pair<L, R> {
+pub struct Pair<L: Lattice, R: Lattice> {
     left: L,
     right: R,
+    ghost narrow: { (L.Lattice.model left).joins.width + (R.Lattice.model right).joins.width ≤ 32 },
 }
 
 impl<L: Lattice, R: Lattice> Pair<L, R> {
@@ -29,31 +30,21 @@ impl<L: Lattice, R: Lattice> Pair<L, R> {
         Ok(Pair { left, right })
     }
 
-    // The bits of the right part, or none where the parts are too wide together.
-    fn shift(&self) -> Option<u32>
-        ensures { Shift (L.Lattice.model self.now.left) (R.Lattice.model self.now.right) result }
+    // The left and the right part of a code.
+    fn split(&self, code: u32) -> (u32, u32)
+        ensures { (result.0 ≡ left_of (R.Lattice.model self.now.right).joins.width code) × (result.1 ≡ right_of (R.Lattice.model self.now.right).joins.width code) }
     {
-        let right = self.right.width();
-        if self.left.width() + right > MOST_BITS {
-            return None;
-        }
-        Some(right)
+        let shift = self.right.width();
+        (code >> shift, code & ((1u32 << shift) - 1))
     }
-}
 
-// The left and the right part of a code.
-fn split(shift: u32, code: u32) -> (u32, u32)
-    requires { shift < 32 }
-    ensures { (result.0 ≡ left_of shift code) × (result.1 ≡ right_of shift code) }
-{
-    (code >> shift, code & ((1u32 << shift) - 1))
-}
-
-fn whole(shift: u32, left: u32, right: u32) -> u32
-    requires { (shift < 32) × (paired shift left right < 2 ^ 32) }
-    ensures { result ≡ paired shift left right }
-{
-    (left << shift) + right
+    // The code of two levels.
+    fn whole(&self, left: u32, right: u32) -> u32
+        requires { ((L.Lattice.model self.now.left).joins.level left ≡ true) × ((R.Lattice.model self.now.right).joins.level right ≡ true) }
+        ensures { result ≡ paired (R.Lattice.model self.now.right).joins.width left right }
+    {
+        (left << self.right.width()) + right
+    }
 }
 
 impl<L: Lattice, R: Lattice> Lattice for Pair<L, R> {
@@ -62,76 +53,50 @@ impl<L: Lattice, R: Lattice> Lattice for Pair<L, R> {
     ghost lawful = { λ x. pair_lawful _ _ (L.Lattice.lawful x.left) (R.Lattice.lawful x.right) };
 
     fn is_level(&self, code: u32) -> bool {
-        match self.shift() {
-            Some(shift) => {
-                let (left, right) = split(shift, code);
-                self.left.is_level(left) & self.right.is_level(right)
-            }
-            None => code == 0,
-        }
+        let (left, right) = self.split(code);
+        self.left.is_level(left) & self.right.is_level(right)
     }
 
     fn width(&self) -> u32 {
-        match self.shift() {
-            Some(shift) => self.left.width() + shift,
-            None => 1,
-        }
+        self.left.width() + self.right.width()
     }
 
     fn flows(&self, a: u32, b: u32) -> bool {
-        match self.shift() {
-            Some(shift) => {
-                let (left, right) = split(shift, a);
-                let (to_left, to_right) = split(shift, b);
-                self.left.flows(left, to_left) & self.right.flows(right, to_right)
-            }
-            None => (a == 0) & (b == 0),
-        }
+        let (left, right) = self.split(a);
+        let (to_left, to_right) = self.split(b);
+        self.left.flows(left, to_left) & self.right.flows(right, to_right)
     }
 
     fn bottom(&self) -> u32 {
-        match self.shift() {
-            Some(shift) => whole(shift, self.left.bottom(), self.right.bottom()),
-            None => 0,
-        }
+        self.whole(self.left.bottom(), self.right.bottom())
     }
 
     fn top(&self) -> u32 {
-        match self.shift() {
-            Some(shift) => whole(shift, self.left.top(), self.right.top()),
-            None => 0,
-        }
+        self.whole(self.left.top(), self.right.top())
     }
 
     fn join(&self, a: u32, b: u32) -> u32 {
-        let levels = self.is_level(a) & self.is_level(b);
-        match self.shift() {
-            Some(shift) if levels => {
-                let (left, right) = split(shift, a);
-                let (with_left, with_right) = split(shift, b);
-                whole(
-                    shift,
-                    self.left.join(left, with_left),
-                    self.right.join(right, with_right),
-                )
-            }
-            _ => self.bottom(),
+        if !(self.is_level(a) & self.is_level(b)) {
+            return self.bottom();
         }
+        let (left, right) = self.split(a);
+        let (with_left, with_right) = self.split(b);
+        self.whole(
+            self.left.join(left, with_left),
+            self.right.join(right, with_right),
+        )
     }
 
+    // One function for joins and meets would take the operations of both parts, and ask of them that they give levels.
     fn meet(&self, a: u32, b: u32) -> u32 {
-        let levels = self.is_level(a) & self.is_level(b);
-        match self.shift() {
-            Some(shift) if levels => {
-                let (left, right) = split(shift, a);
-                let (with_left, with_right) = split(shift, b);
-                whole(
-                    shift,
-                    self.left.meet(left, with_left),
-                    self.right.meet(right, with_right),
-                )
-            }
-            _ => self.bottom(),
+        if !(self.is_level(a) & self.is_level(b)) {
+            return self.bottom();
         }
+        let (left, right) = self.split(a);
+        let (with_left, with_right) = self.split(b);
+        self.whole(
+            self.left.meet(left, with_left),
+            self.right.meet(right, with_right),
+        )
     }
 }

@@ -1,10 +1,10 @@
 -- A cycle makes at most as many reports as the design has commands. Assumes nothing.
-use Rattle.std.proofs.Common.{◌≡◌, ℕ, zero, suc, ◌+◌, ◌-◌, ◌*◌, ◌<◌, ◌≤◌, Bool, true, false, cond, not, ◌&&◌, ◌||◌, ltb, map, Some, None, Option, sym, refl, ap, ◌∙◌, subst, add-mul, one-mul, zero-mul, arith}
+use Rattle.std.proofs.Common.{◌≡◌, ℕ, zero, suc, ◌+◌, ◌*◌, ◌<◌, ◌≤◌, Bool, true, false, cond, not, ◌&&◌, ◌||◌, ltb, map, Some, None, Option, sym, refl, ap, ◌∙◌, subst, add-mul, one-mul, zero-mul, arith}
 use Rattle.std.specs.List.{range_with_len}
-use Rattle.std.proofs.lemmas.Bool.{and_parts, and_from, or_left, or_right, both_ways, lt-ltb, not-true, not-false, cond-true, cond-false, cond_both}
+use Rattle.std.proofs.lemmas.Bool.Decides.{nat_tests}
+use Rattle.std.proofs.lemmas.Bool.{and_parts, and_from, or_left, or_right, lt-ltb, not-false, cond-true, cond-false, cond_both}
 use Rattle.records.specs.declared.Command.{Command}
 use Rattle.records.specs.declared.Action.{Action}
-use Rattle.records.specs.declared.Action.TheVariants.{Set, Tag, If, Goto, Fall}
 use Rattle.search.specs.Sum.{sum_below}
 use Rattle.rules.specs.Rules.{commands_kind, sizes, linked, ended, once, branch_names, command_names, times_named, same, command_ends}
 use Rattle.shape.specs.Rank.{lower, ranked}
@@ -35,8 +35,7 @@ links_size d k = (size_of d (command_at d k).next + size_of d (command_at d k).a
 
 branches_are : (b : Bool) (x y : Chain) → size (cond b x stop) + size (cond b y stop) ≡ cond b (size x + size y) 0
 unfolding size
-branches_are true x y = refl
-branches_are false x y = refl
+branches_are b x y = grind arith
 
 size_opens : (d : Design) → linked d ≡ None → (k : ℕ) → k < d.head.commands → size_of d (Some k) ≡ suc (links_size d k)
 unfolding size
@@ -130,31 +129,22 @@ largest_below f bound a (suc n) h = omega (arith, h a (omega arith) (omega arith
 
 -- what the rule on ends says of a command
 same_true : (a b : Bool) → same a b ≡ true → a ≡ true → b ≡ true
-same_true true b h e = h
-same_true false b h e = absurd (both_ways false refl e)
+same_true a b h e = grind (arith, h, e)
 
 true_same : (a b : Bool) → same a b ≡ true → b ≡ true → a ≡ true
-true_same true b h e = refl
-true_same false b h e = absurd (both_ways b (not-true b h) e)
+true_same a b h e = grind (arith, h, e)
 
 or_if : (a b : Bool) → (not a || b) ≡ true → a ≡ true → b ≡ true
-or_if true b h e = h
-or_if false b h e = absurd (both_ways false refl e)
+or_if a b h e = grind (arith, h, e)
 
 and_not : (a b : Bool) → not (a && b) ≡ true → b ≡ true → a ≡ false
-and_not true b h e = absurd (both_ways b (not-true b h) e)
-and_not false b h e = refl
+and_not a b h e = grind (arith, h, e)
 
 fall_leaves : (a : Action) → is_fall a ≡ true → leaves a ≡ true
-fall_leaves Set e = absurd (both_ways false refl e)
-fall_leaves Tag e = absurd (both_ways false refl e)
-fall_leaves If e = absurd (both_ways false refl e)
-fall_leaves Goto e = refl
-fall_leaves Fall e = refl
+fall_leaves a e = grind (arith, e)
 
 given_ends : (ends : ℕ → Bool) (o : Option ℕ) → branch_ends ends o ≡ true → given o ≡ true
-given_ends ends None e = absurd (both_ways false refl e)
-given_ends ends (Some m) e = refl
+given_ends ends o e = grind (arith, e)
 
 -- only a last command is followed by no next, and only its links end
 record Ends (ends : ℕ → Bool) (c : Command) : Type 0 where
@@ -189,11 +179,7 @@ ends_if ends c h =
 -- whether the chain from a command on ends, opened
 module _ (d : Design) (links : linked d ≡ None) where
   later_ranks : (k m : ℕ) → k < m → m < d.head.commands → chain_rank d m < chain_rank d k
-  later_ranks k m l w =
-      let n : ℕ = d.head.commands in
-      let here : chain_rank d k ≡ n - k = cond-true (ltb k n) (n - k) (suc n) (lt-ltb k n (omega arith)) in
-      let there : chain_rank d m ≡ n - m = cond-true (ltb m n) (n - m) (suc n) (lt-ltb m n w) in
-      rw (here, there) (omega arith)
+  later_ranks k m l w = grind (arith, nat_tests, l, w)
 
   abbrev ends_all : ℕ → Bool
   ends_all = ranked (chain_rank d) false (ends_node d)
@@ -205,12 +191,10 @@ module _ (d : Design) (links : linked d ≡ None) where
   ends_link k None h = refl
   ends_link k (Some m) h =
       let at = h m refl in
-      cond-true (ltb (chain_rank d m) (chain_rank d k)) (ends_all m) false (lt-ltb (chain_rank d m) (chain_rank d k) (later_ranks k m at.0 at.1))
-      ∙ sym (cond-true (ltb m d.head.commands) (ends_all m) false (lt-ltb m d.head.commands at.1))
+      rw (lt-ltb (chain_rank d m) (chain_rank d k) (later_ranks k m at.0 at.1), lt-ltb m d.head.commands at.1) refl
 
   and_same : (b x x' y y' : Bool) → (b ≡ true → x ≡ x') → (b ≡ true → y ≡ y') → (b && (x && y)) ≡ (b && (x' && y'))
-  and_same true x x' y y' p q = let p' = p refl in let q' = q refl in cc
-  and_same false x x' y y' p q = refl
+  and_same b x x' y y' p q = grind (arith, p, q)
 
   ends_opens : (k : ℕ) → k < d.head.commands → ends_of d k ≡ chain_ends (ends_of d) (command_at d k)
   ends_opens k l =
@@ -229,16 +213,13 @@ module _ (d : Design) (links : linked d ≡ None) where
 
 -- a number that counts only where a test passes
 cond_less : (a b : Bool) (n : ℕ) → (a ≡ true → b ≡ true) → cond a n 0 ≤ cond b n 0
-cond_less true b n h = rw (h refl) (omega arith)
-cond_less false b n h = omega arith
+cond_less a b n h = grind (arith, h)
 
 cond_most : (a : Bool) (n : ℕ) → cond a n 0 ≤ n
-cond_most true n = omega arith
-cond_most false n = omega arith
+cond_most a n = grind arith
 
 cond_add : (b : Bool) (x y : ℕ) → cond b (x + y) 0 ≡ cond b x 0 + cond b y 0
-cond_add true x y = refl
-cond_add false x y = refl
+cond_add b x y = grind arith
 
 -- at most one report for each command of the chain, and where it ends for each command of the later states
 module _ (d : Design) where
@@ -300,8 +281,7 @@ module _ (d : Design) (links : linked d ≡ None) (ends : ended d ≡ None) wher
       branch_last o h = by (is_if c.action) h
         where
           by : (b : Bool) → (b ≡ true → most d (chain_of d o) ≤ size_of d o + last) → most d (cond b (chain_of d o) stop) ≤ cond b (size_of d o) 0 + last
-          by true q = q refl
-          by false q = omega (arith, most_stop d)
+          by b q = grind (arith, q, most_stop d)
 
       falls : (t : ℕ) → t < d.head.states → most d (states_of d k t) ≤ last
       falls t m =

@@ -1,7 +1,8 @@
 -- A cycle that starts from a memory that a step accepts leaves a memory that a step accepts. Assumes nothing.
 use Rattle.std.proofs.Common.{◌≡◌, ℕ, zero, suc, ◌+◌, ◌%◌, ◌^◌, ◌<◌, ◌≤◌, max, Bool, true, false, cond, not, ◌||◌, eqb, ltb, List, [], ◌∷◌, length, get_or, set, Some, None, fold, Option, unwrap_or, sym, refl, ap, ◌∙◌, subst, ⊎_elim, mod-lt, arith, length-set, get_or-set_other, get_or-set_same, pow_pos}
-use Rattle.std.proofs.lemmas.Bool.{both_ways, not-false, not_from_true, ltb-true, lt-ltb, le-ltb, eqb-true, eqb-false, eq-eqb, cases_lt, cases_eq, and_parts, and_from, or_parts, or_from, cond-true, cond-false, cond_both}
-use Rattle.lattice.specs.Faults.{Refusal, refuse}
+use Rattle.std.proofs.lemmas.Bool.Decides.{nat_tests}
+use Rattle.std.proofs.lemmas.Bool.{not-false, not_from_true, ltb-true, lt-ltb, le-ltb, cases_eq, and_parts, and_from, or_parts, or_from, cond-true, cond-false, cond_both}
+use Rattle.lattice.specs.Faults.{Refusal}
 use Rattle.lattice.specs.Folds.{joined}
 use Rattle.lattice.specs.Model.{Joins, JoinLaws}
 use Rattle.lattice.proofs.FoldLaws.{joined_least}
@@ -41,8 +42,7 @@ pub record Good (m : Joins) (d : Design) (memory : Memory) : Type 0 where
 
 -- no cause and no cause make none
 pub both_none : (a b : Option Refusal) → a ≡ None → b ≡ None → (a ⊳ b) ≡ None
-both_none None b p q = q
-both_none (Some r) b p q = p
+both_none a b p q = grind (arith, p, q)
 
 -- and back: where no record breaks a rule, its sweep refuses nothing
 no_break : (rule kind n : ℕ) (breaks : ℕ → Bool) → ((j : ℕ) → j < n → breaks j ≡ false) → sweep rule kind n breaks ≡ None
@@ -144,7 +144,7 @@ record Ruled (d : Design) : Type 0 where
   places : (n : ℕ) → n < d.head.commands → action_placed d (owner_of d n) (command_at d n) (command_at d n).action ≡ true
 
 not_zero : (n : ℕ) → eqb n 0 ≡ false → 0 < n
-not_zero n e = let some : n ≡ 0 → ⊥ = eqb-false n 0 e in omega arith
+not_zero n e = grind (arith, nat_tests, e)
 
 has_cells : (d : Design) → sizes d ≡ None → (x : ℕ) → x < d.head.registers → 0 < (register_at d x).cells
 has_cells d sizes_hold x l =
@@ -175,9 +175,7 @@ ruled_if d sizes_hold links places =
 sum_up : (f : ℕ → ℕ) (y x : ℕ) → y < x → sum_below f (suc y) ≤ sum_below f x
 unfolding sum_below
 sum_up f y zero l = absurd (omega arith)
-sum_up f y (suc x) l =
-    ⊎_elim (λ h. omega (arith, sum_up f y x h))
-    (λ h. let e : x ≡ y = omega arith in subst (λ z. sum_below f (suc z) ≤ sum_below f (suc x)) e (omega arith)) (cases_lt y x)
+sum_up f y (suc x) l = grind (arith, l, sum_up f y x)
 
 sum_more : (f : ℕ → ℕ) (x : ℕ) → sum_below f (suc x) ≡ sum_below f x + f x
 unfolding sum_below
@@ -202,15 +200,10 @@ Needs d s c Fall = s < d.head.states
 
 -- a field that names a record
 names_below : (n : ℕ) (o : Option ℕ) → names n o ≡ true → unwrap_or o 0 < n
-names_below n None e = absurd (both_ways false refl e)
-names_below n (Some k) e = ltb-true k n e
+names_below n o e = grind (arith, nat_tests, e)
 
 named : (d : Design) (c : Command) → cell_named d c ≡ true → unwrap_or c.x 0 < d.head.registers
-named d c h = go c.x refl
-  where
-    go : (o : Option ℕ) → c.x ≡ o → unwrap_or o 0 < d.head.registers
-    go None e = absurd (both_ways false refl (rw e at h))
-    go (Some x) e = ltb-true x d.head.registers (and_parts _ _ (rw e at h)).0
+named d c h = grind (arith, nat_tests, h)
 
 needs_if : (d : Design) (s n : ℕ) (a : Action) → (command_at d n).action ≡ a → fields_linked d n ≡ true → action_placed d s (command_at d n) a ≡ true → s < d.head.states → Needs d s (command_at d n) a
 needs_if d s n Set e fields placed l = named d (command_at d n) (and_parts _ _ (rw e at fields)).0
@@ -293,15 +286,10 @@ module _ (m : Joins) (laws : JoinLaws m) (d : Design) where
 
     -- A dynamic register has no floor; a level to which the floor of an enforced one flows is not under it.
     no_floor : (r : Register) → floor_placed r ≡ true → enforced r.mode ≡ false → (k : ℕ) → Level k → under_floor m r.floor k ≡ false
-    no_floor r h e k q = go r.floor (sym (cond-false (enforced r.mode) (given r.floor) (not (given r.floor)) e) ∙ h)
-      where
-        go : (o : Option ℕ) → not (given o) ≡ true → under_floor m o k ≡ false
-        go None n = not_from_true (m.level k) q
-        go (Some f) n = absurd (both_ways false refl n)
+    no_floor r h e k q = grind (arith, h, e, q)
 
     some_floor : (o : Option ℕ) (k : ℕ) → given o ≡ true → m.flows (unwrap_or o 0) k ≡ true → under_floor m o k ≡ false
-    some_floor None k h e = absurd (both_ways false refl h)
-    some_floor (Some f) k h e = or_from _ _ (not_from_true _ (laws.order.to_level f k e)) (not_from_true _ e)
+    some_floor o k h e = grind (arith, h, e, laws.order.to_level (unwrap_or o 0) k e)
 
     -- A set cuts the value to the width; an enforced cell keeps its level, and a dynamic one, which has no floor, takes a join.
     set_did : (x i c index_level : ℕ) (new : Labeled ℕ) → x < d.head.registers → (alt : Reach) (memory : Memory) → Fit m d memory
@@ -375,9 +363,7 @@ module _ (m : Joins) (laws : JoinLaws m) (d : Design) where
     -- After a goto each pointer names a child of its state.
     -- of two states with the same parent both are its children
     same_parent : (a b : Option ℕ) (t : ℕ) → alike a b ≡ true → holds b t ≡ true → holds a t ≡ true
-    same_parent a None t h e = absurd (both_ways false refl e)
-    same_parent None (Some p) t h e = absurd (both_ways false refl h)
-    same_parent (Some n) (Some p) t h e = eq-eqb n t (sym (eqb-true p n h) ∙ eqb-true p t e)
+    same_parent a b t h e = grind (arith, nat_tests, h, e)
 
     goto_did : (s target c : ℕ) → Level c → target < d.head.states → alike (state_at d target).parent (state_at d s).parent ≡ true → (alt : Reach) (memory : Memory) → Fit m d memory → Did (do_goto m d s target c alt memory)
     goto_did s target c q l same alt memory f =
@@ -397,8 +383,7 @@ module _ (m : Joins) (laws : JoinLaws m) (d : Design) where
 
     -- A fall enters a state, in a context that is a level.
     child_below : (s : ℕ) (o : Option ℕ) → names_child d s o ≡ true → unwrap_or o 0 < d.head.states
-    child_below s None e = rules.some_states
-    child_below s (Some t) e = ltb-true t d.head.states (and_parts _ _ e).0
+    child_below s o e = grind (arith, nat_tests, e, rules.some_states)
 
     -- a state that admits a context runs in one that is a level
     entered : (t k : ℕ) → Level k → admits m d t k ≡ true → Level (context_in m d t k)
@@ -489,11 +474,10 @@ good_start m laws d cells long good =
 
 -- A good memory is refused by no step.
 exact_none : (n k : ℕ) → k ≡ n → exactly n k ≡ None
-exact_none n k e = cond-true (eqb k n) None (refuse 12 (n ∷ [])) (eq-eqb k n e)
+exact_none n k e = grind (arith, nat_tests, e)
 
 then_none : (a b : Option Refusal) → b ≡ None → (a ⊳ b) ≡ a
-then_none None b e = e
-then_none (Some r) b e = refl
+then_none a b e = grind (arith, e)
 
 pub goes_on : (m : Joins) (d : Design) (memory : Memory) → Good m d memory → GoesOn m d memory.cells memory.pointers
 goes_on m d memory g inputs reports =
@@ -506,11 +490,7 @@ goes_on m d memory g inputs reports =
     ∙ then_none (ports ⊳ room) (bad_cells m d memory.cells) g.cells_good)
 
 exact_if : (n k : ℕ) → exactly n k ≡ None → k ≡ n
-exact_if n k e = by (eqb k n) refl
-  where
-    by : (b : Bool) → eqb k n ≡ b → k ≡ n
-    by true h = eqb-true k n h
-    by false h = let z : ◌≡◌ {A = ℕ} 0 1 = cc in absurd (omega arith)
+exact_if n k e = grind (arith, nat_tests, e)
 
 -- What a start and a step that are not refused were lent.
 pub start_lent : (m : Joins) (d : Design) (cells : List (Labeled ℕ)) (pointers : ℕ) → start_verdict m d cells pointers ≡ None → (length cells ≡ all_cells d) × (pointers ≡ d.head.states) × (bad_cells m d cells ≡ None)

@@ -1,6 +1,7 @@
 pub mod Bitsets
 pub mod Chained
 pub mod Counting
+pub mod Cycling
 pub mod Good
 pub mod Laying
 pub mod Lists

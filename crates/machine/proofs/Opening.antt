@@ -1,11 +1,11 @@
 -- What a command links to, and the chain from a command on, opened. Assumes nothing.
 use Rattle.std.proofs.Common.{◌≡◌, ℕ, suc, ◌+◌, ◌-◌, ◌*◌, ◌<◌, ◌≤◌, Bool, true, false, cond, not, ◌&&◌, ◌||◌, ltb, Some, None, Option, sym, refl, ap, ◌∙◌, subst, mul_comm, arith}
 use Rattle.std.proofs.lemmas.Nat.{mul-add-lt}
-use Rattle.std.proofs.lemmas.Bool.{and_parts, and_from, or_left, or_right, both_ways, eqb-true, ltb-true, lt-ltb, eq-eqb, le-ltb, not-false, cond-true, cond-false, cond_both}
+use Rattle.std.proofs.lemmas.Bool.{and_parts, and_from, or_left, or_right, eqb-true, ltb-true, lt-ltb, eq-eqb, le-ltb, not-false, cond-true, cond-false}
 use Rattle.std.proofs.lemmas.Bool.Decides.{nat_tests}
 use Rattle.records.specs.declared.Command.{Command}
 use Rattle.records.specs.declared.Action.{Action}
-use Rattle.records.specs.declared.Action.TheVariants.{Set, Tag, If, Goto, Fall}
+use Rattle.records.specs.declared.Action.TheVariants.{If}
 use Rattle.search.specs.First.{first, some_below}
 use Rattle.search.specs.Sum.{sum_below}
 use Rattle.search.proofs.Firsts.{first_is}
@@ -13,10 +13,10 @@ use Rattle.rules.specs.Rules.{commands_kind, linked, later, fields_linked, once,
 use Rattle.shape.specs.Rank.{lower, ranked}
 use Rattle.shape.specs.Shape.{Design, command_at, state_at, holds, is_if, links, is_first, links_to, owner_of, owner_node, chain_rank}
 use Rattle.rules.proofs.Ranking.{ranked_is}
-use Rattle.design.specs.Chains.{Chain, stop, run, Spot, spot, spot_rank, link, chain_node, chain_at, is_below, is_fall}
+use Rattle.design.specs.Chains.{Chain, stop, run, Spot, spot, spot_rank, link, chain_node, is_below, is_fall}
 use Rattle.design.proofs.Kept.{neither, none_breaks}
 use Rattle.design.proofs.Reaching.{first_within, below_after}
-use Rattle.machine.specs.Links.{chain_of, rank_of, states_of}
+use Rattle.machine.specs.Links.{chain_of, rank_of, states_of, Names}
 use Rattle.machine.proofs.Sums.{term_below, apart_below}
 
 pub commands_linked : (d : Design) → linked d ≡ None → (k : ℕ) → k < d.head.commands → command_linked d k ≡ true
@@ -29,22 +29,19 @@ named_once d e k l = eqb-true (times_named d k) 1 (and_parts _ _ (commands_linke
 
 -- a command names k exactly if it does so at least once
 some_one : (b : Bool) → ltb 0 (cond b 1 0) ≡ b
-some_one true = refl
-some_one false = refl
+some_one b = grind arith
 
 some_sum : (a b : ℕ) → ltb 0 (a + b) ≡ (ltb 0 a || ltb 0 b)
 some_sum a b = grind (arith, nat_tests)
 
 some_if : (b : Bool) (a : ℕ) → ltb 0 (cond b a 0) ≡ (b && ltb 0 a)
-some_if true a = refl
-some_if false a = refl
+some_if b a = grind arith
 
 links_if_named : (c : Command) (k : ℕ) → ltb 0 (command_names c k) ≡ links c k
 links_if_named c k = simp (some_one, some_sum, some_if)
 
 no_one : (b : Bool) → cond b 1 0 < 1 → b ≡ false
-no_one true l = absurd (omega arith)
-no_one false l = refl
+no_one b l = grind (arith, l)
 
 not_named : (c : Command) (k : ℕ) → command_names c k < 1 → links c k ≡ false
 not_named c k l = sym (links_if_named c k) ∙ le-ltb 0 (command_names c k) (omega arith)
@@ -116,6 +113,10 @@ owner_named d e j m l w named =
 abbrev pub LinkFrom : Design → ℕ → Option ℕ → Type 0
 LinkFrom d k o = (m : ℕ) → o ≡ Some m → (k < m) × (m < d.head.commands) × (owner_of d m ≡ owner_of d k)
 
+pub names_link : (d : Design) (k : ℕ) (o : Option ℕ) → LinkFrom d k o → Names d o
+names_link d k None h = tt
+names_link d k (Some j) h = (h j refl).1
+
 pub record LinkedNode (d : Design) (k : ℕ) : Type 0 where
   pub alt : LinkFrom d k (command_at d k).alt
   pub next : LinkFrom d k (command_at d k).next
@@ -124,30 +125,22 @@ pub record LinkedNode (d : Design) (k : ℕ) : Type 0 where
 
 -- what holds for a link, and what its field names
 later_if : (k n : ℕ) (o : Option ℕ) → later k n o ≡ true → (m : ℕ) → o ≡ Some m → (k < m) × (m < n)
-later_if k n None h m e = let z : ◌≡◌ {A = ℕ} 0 1 = cc in absurd (omega arith)
-later_if k n (Some i) h m e =
-    let same : i ≡ m = cc in
-    let parts = and_parts (ltb k i) (ltb i n) h in
-    (omega (arith, ltb-true k i parts.0), omega (arith, ltb-true i n parts.1))
+later_if k n o h m e = let h' = rw e at h in (grind (arith, nat_tests, h'), grind (arith, nat_tests, h'))
 
 held_if : (o : Option ℕ) (m : ℕ) → o ≡ Some m → holds o m ≡ true
 held_if o m e = ap (λ p. holds p m) e ∙ eq-eqb m m refl
 
 if_only : (a : Action) → is_if a ≡ true → a ≡ If
-if_only Set e = absurd (both_ways false refl e)
-if_only Tag e = absurd (both_ways false refl e)
-if_only If e = refl
-if_only Goto e = absurd (both_ways false refl e)
-if_only Fall e = absurd (both_ways false refl e)
+if_only a e = grind (arith, e)
 
 branches_later : (d : Design) (k : ℕ) → fields_linked d k ≡ true → is_if (command_at d k).action ≡ true → (later k d.head.commands (command_at d k).x ≡ true) × (later k d.head.commands (command_at d k).i ≡ true)
 branches_later d k h i = and_parts _ _ (and_parts _ _ (rw (if_only (command_at d k).action i) at h)).0
 
 or_left_left : (a b c : Bool) → a ≡ true → ((a || b) || c) ≡ true
-or_left_left a b c e = or_left (a || b) c (or_left a b e)
+or_left_left a b c e = grind (arith, e)
 
 or_left_right : (a b c : Bool) → b ≡ true → ((a || b) || c) ≡ true
-or_left_right a b c e = or_left (a || b) c (or_right a b e)
+or_left_right a b c e = grind (arith, e)
 
 -- a command names only later commands, in its own state
 pub linked_node : (d : Design) → linked d ≡ None → (k : ℕ) → k < d.head.commands → LinkedNode d k
@@ -181,7 +174,7 @@ rank_gap : (a b w x y : ℕ) → a < b → x < w → a * w + x < b * w + y
 rank_gap a b w x y l m = omega (arith, mul-add-lt a w x b l m, mul_comm b w)
 
 rank_small : (c j : ℕ) → cond (ltb j c) (c - j) (suc c) < c + 2
-rank_small c j = cond_both (ltb j c) (c - j) (suc c) (λ r. r < c + 2) (λ _. omega arith) (λ _. omega arith)
+rank_small c j = grind (arith, nat_tests)
 
 later_rank : (d : Design) (s k t : ℕ) → s < t → t < d.head.states → spot_rank d (spot t (state_at d t).first) < spot_rank d (spot s k)
 later_rank d s k t l m =
@@ -189,11 +182,7 @@ later_rank d s k t l m =
     (rank_small d.head.commands (state_at d t).first)
 
 next_rank : (d : Design) (s k m : ℕ) → k < m → m < d.head.commands → spot_rank d (spot s m) < spot_rank d (spot s k)
-next_rank d s k m l w =
-    let n : ℕ = d.head.commands in
-    let here : chain_rank d k ≡ n - k = cond-true (ltb k n) (n - k) (suc n) (lt-ltb k n (omega arith)) in
-    let there : chain_rank d m ≡ n - m = cond-true (ltb m n) (n - m) (suc n) (lt-ltb m n w) in
-    rw (here, there) (omega arith)
+next_rank d s k m l w = grind (arith, nat_tests, l, w)
 
 abbrev pub Falls : Design → ℕ → Option ℕ → Type 0
 Falls d k o = rank_of d o < rank_of d (Some k)
@@ -233,8 +222,7 @@ module _ (d : Design) (k : ℕ) where
   link_is (Some m) h =
       let s : ℕ = owner_of d k in
       let at = h m refl in
-      cond-true (ltb (spot_rank d (spot s m)) (spot_rank d (spot s k))) (chain_at d s m) stop (lt-ltb (spot_rank d (spot s m)) (spot_rank d (spot s k)) (next_rank d s k m at.0 at.1))
-      ∙ ap (λ t. chain_at d t m) (sym at.2)
+      rw (lt-ltb (spot_rank d (spot s m)) (spot_rank d (spot s k)) (next_rank d s k m at.0 at.1), at.2) refl
 
   branch_is : (b : Bool) (o : Option ℕ) → (b ≡ true → LinkFrom d k o) → cond b (link before (owner_of d k) o) stop ≡ cond b (chain_of d o) stop
   branch_is true o h = link_is o (h refl)
@@ -266,6 +254,4 @@ opens_states d e k t l = by (is_fall (command_at d k).action) (is_below d s t) r
     by false u q = refl
     by true false q = refl
     by true true q =
-        cond-true (ltb (spot_rank d there) (spot_rank d (spot s k))) (chain_at d t (state_at d t).first) stop
-        (lt-ltb (spot_rank d there) (spot_rank d (spot s k)) (later_rank d s k t (below_after d e s t l q) l))
-        ∙ ap (λ u. chain_at d u (state_at d t).first) (sym (owner_first d e t l))
+        rw (lt-ltb (spot_rank d there) (spot_rank d (spot s k)) (later_rank d s k t (below_after d e s t l q) l), owner_first d e t l) refl

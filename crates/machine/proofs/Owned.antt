@@ -7,8 +7,8 @@ use Rattle.rules.specs.Rules.{sizes, linked}
 use Rattle.design.specs.Chains.{Chain, stop, run, is_below, is_fall}
 use Rattle.design.proofs.Kept.{sized_if}
 use Rattle.design.proofs.Reaching.{owner_below, first_within}
-use Rattle.machine.specs.Links.{chain_of, rank_of, states_of}
-use Rattle.machine.proofs.Opening.{LinkFrom, LinkedNode, linked_node, Falls, RanksFall, rank_falls, opens, opens_states}
+use Rattle.machine.specs.Links.{chain_of, rank_of, states_of, Names}
+use Rattle.machine.proofs.Opening.{LinkFrom, LinkedNode, linked_node, names_link, Falls, RanksFall, rank_falls, opens, opens_states}
 
 -- the commands of a chain are commands of the design, and each stands in the state that owns it
 unfoldable pub Owned : Design → Chain → Type 0
@@ -18,12 +18,9 @@ Owned d (run s n c alt next then_branch else_branch states) =
     × Owned d else_branch × ((u : ℕ) → u < d.head.states → Owned d (states u))
 
 module _ (d : Design) where
-  abbrev Within : Option ℕ → Type 0
-  Within o = (k : ℕ) → o ≡ Some k → k < d.head.commands
-
   -- the chains of lower rank than command k are owned
   abbrev Lower : ℕ → Type 0
-  Lower k = (o : Option ℕ) → Falls d k o → Within o → Owned d (chain_of d o)
+  Lower k = (o : Option ℕ) → Falls d k o → Names d o → Owned d (chain_of d o)
 
   stop_owned : Owned d stop
   unfolding Owned
@@ -55,7 +52,7 @@ module _ (d : Design) (sized : sizes d ≡ None) (links : linked d ≡ None) whe
       ranks = rank_falls d links k l
 
       link : (o : Option ℕ) → LinkFrom d k o → Falls d k o → Owned d (chain_of d o)
-      link o h f = lower o f (λ m e. (h m e).1)
+      link o h f = lower o f (names_link d k o h)
 
       branch : (o : Option ℕ) → (is_if c.action ≡ true → LinkFrom d k o) → (is_if c.action ≡ true → Falls d k o) → Owned d (cond (is_if c.action) (chain_of d o) stop)
       branch o h f = cond_both (is_if c.action) (chain_of d o) stop (Owned d) (λ i. link o (h i) (f i)) (λ _. stop_owned d)
@@ -64,17 +61,14 @@ module _ (d : Design) (sized : sizes d ≡ None) (links : linked d ≡ None) whe
       states u m =
           subst (Owned d) (sym (opens_states d links k u m))
           (cond_both (is_fall c.action && is_below d (owner_of d k) u) (chain_of d (Some (state_at d u).first)) stop (Owned d)
-          (λ b. lower (Some (state_at d u).first) (ranks.states u m (and_parts (is_fall c.action) (is_below d (owner_of d k) u) b).1) (λ j e. subst (λ i. i < d.head.commands) (some_same (state_at d u).first j e) (first_within d links u m)))
+          (λ b. lower (Some (state_at d u).first) (ranks.states u m (and_parts (is_fall c.action) (is_below d (owner_of d k) u) b).1) (first_within d links u m))
           (λ _. stop_owned d))
-        where
-          some_same : (i j : ℕ) → Some i ≡ Some j → i ≡ j
-          some_same i j e = cc
 
-  owned_fuel : (fuel : ℕ) (o : Option ℕ) → rank_of d o < fuel → Within d o → Owned d (chain_of d o)
+  owned_fuel : (fuel : ℕ) (o : Option ℕ) → rank_of d o < fuel → Names d o → Owned d (chain_of d o)
   owned_fuel zero o l w = absurd (omega arith)
   owned_fuel (suc fuel) None l w = stop_owned d
-  owned_fuel (suc fuel) (Some k) l w = run_owned k (w k refl) (λ o f. owned_fuel fuel o (omega arith))
+  owned_fuel (suc fuel) (Some k) l w = run_owned k w (λ o f. owned_fuel fuel o (omega arith))
 
--- the chain from a link on is owned
-pub owned : (d : Design) → sizes d ≡ None → linked d ≡ None → (o : Option ℕ) → ((k : ℕ) → o ≡ Some k → k < d.head.commands) → Owned d (chain_of d o)
-owned d sized links o = owned_fuel d sized links (suc (rank_of d o)) o (omega arith)
+-- the chain from a command on is owned
+pub owned : (d : Design) → sizes d ≡ None → linked d ≡ None → {k : ℕ} → k < d.head.commands → Owned d (chain_of d (Some k))
+owned d sized links {k} l = owned_fuel d sized links (suc (rank_of d (Some k))) (Some k) (omega arith) l

@@ -1,25 +1,22 @@
 -- Laws of sums over the numbers below a count. Assumes nothing.
-use Rattle.std.proofs.Common.{◌≡◌, ℕ, zero, suc, ◌+◌, ◌*◌, ◌<◌, ◌≤◌, cond, eqb, ltb, sym, refl, ap, ◌∙◌, subst, ⊎_elim, add-mul, one-mul, zero-mul, arith}
-use Rattle.std.proofs.lemmas.Bool.{cases_lt, cond-true, cond-false, lt-ltb, le-ltb, eq-eqb, ne_eqb}
+use Rattle.std.proofs.Common.{◌≡◌, ℕ, zero, suc, ◌+◌, ◌*◌, ◌<◌, ◌≤◌, cond, eqb, ltb, sym, refl, ap, ◌∙◌, ⊎_elim, add-mul, zero-mul, arith}
+use Rattle.std.proofs.lemmas.Bool.Decides.{nat_tests}
+use Rattle.std.proofs.lemmas.Bool.{cases_lt}
 use Rattle.search.specs.Sum.{sum_below}
 
 -- a term is at most the sum, and so are two of them
 pub term_below : (f : ℕ → ℕ) (n i : ℕ) → i < n → f i ≤ sum_below f n
 unfolding sum_below
 term_below f zero i l = absurd (omega arith)
-term_below f (suc n) i l =
-    ⊎_elim (λ h. omega (arith, term_below f n i h)) (λ h. let e : i ≡ n = omega arith in subst (λ j. f j ≤ sum_below f n + f n) (sym e) (omega arith)) (cases_lt i n)
+term_below f (suc n) i l = grind (arith, l, term_below f n i)
 
 pub two_below : (f : ℕ → ℕ) (n i j : ℕ) → i < j → j < n → f i + f j ≤ sum_below f n
 unfolding sum_below
 two_below f zero i j l m = absurd (omega arith)
-two_below f (suc n) i j l m =
-    ⊎_elim (λ h. omega (arith, two_below f n i j l h))
-    (λ h. let e : j ≡ n = omega arith in subst (λ j. f i + f j ≤ sum_below f n + f n) (sym e) (omega (arith, term_below f n i (omega arith)))) (cases_lt j n)
+two_below f (suc n) i j l m = grind (arith, l, m, two_below f n i j l, term_below f n i)
 
 pub apart_below : (f : ℕ → ℕ) (n i j : ℕ) → i < n → j < n → (i ≡ j → ⊥) → f i + f j ≤ sum_below f n
-apart_below f n i j l m ne =
-    ⊎_elim (λ h. two_below f n i j h m) (λ h. omega (arith, two_below f n j i (omega arith) l)) (cases_lt i j)
+apart_below f n i j l m ne = grind (arith, l, m, ne, two_below f n i j, two_below f n j i)
 
 -- sums of terms that agree, of sums, and of multiples
 pub sum_same : (f g : ℕ → ℕ) (n : ℕ) → ((i : ℕ) → i < n → f i ≡ g i) → sum_below f n ≡ sum_below g n
@@ -59,10 +56,10 @@ sum_weighed w f n m =
 
 -- a sum that picks out one term
 picked : (m k w : ℕ) → m ≡ k → cond (eqb m k) 1 0 * w ≡ w
-picked m k w e = ap (λ c. c * w) (cond-true {A = ℕ} (eqb m k) 1 0 (eq-eqb m k e)) ∙ one-mul w
+picked m k w e = grind (arith, nat_tests, e)
 
 dropped : (m k w : ℕ) → (m ≡ k → ⊥) → cond (eqb m k) 1 0 * w ≡ 0
-dropped m k w ne = ap (λ c. c * w) (cond-false {A = ℕ} (eqb m k) 1 0 (ne_eqb m k ne)) ∙ zero-mul w
+dropped m k w ne = grind (arith, nat_tests, ne)
 
 pub sum_pick : (w : ℕ → ℕ) (n m : ℕ) → m < n → sum_below (λ k. cond (eqb m k) 1 0 * w k) n ≡ w m
 unfolding sum_below
@@ -77,10 +74,10 @@ abbrev pub past : (ℕ → ℕ) → ℕ → ℕ → ℕ
 past v s n = sum_below (λ u. cond (ltb s u) (v u) 0) n
 
 past_term : (v : ℕ → ℕ) (s n : ℕ) → s < n → cond (ltb s n) (v n) 0 ≡ v n
-past_term v s n l = cond-true (ltb s n) (v n) 0 (lt-ltb s n l)
+past_term v s n l = grind (arith, nat_tests, l)
 
 no_term : (v : ℕ → ℕ) (s n : ℕ) → n ≤ s → cond (ltb s n) (v n) 0 ≡ 0
-no_term v s n l = cond-false (ltb s n) (v n) 0 (le-ltb s n l)
+no_term v s n l = grind (arith, nat_tests, l)
 
 none_past : (v : ℕ → ℕ) (s n : ℕ) → n ≤ s → past v s n ≡ 0
 none_past v s n l = sum_zero (λ u. cond (ltb s u) (v u) 0) n (λ u m. no_term v s u (omega arith))
@@ -90,12 +87,10 @@ pub past_more : (v : ℕ → ℕ) (s t n : ℕ) → s < t → t < n → v t + pa
 unfolding sum_below
 past_more v s t zero l m = absurd (omega arith)
 past_more v s t (suc n) l m =
-    ⊎_elim (λ h. omega (arith, past_more v s t n l h, past_term v t n h, past_term v s n (omega arith)))
-    (λ h. let e : t ≡ n = omega arith in omega (arith, none_past v t n h, no_term v t n h, past_term v s n (omega arith), ap v e)) (cases_lt t n)
+    grind (arith, nat_tests, l, m, past_more v s t n l, none_past v t n)
 
 pub past_first : (v : ℕ → ℕ) (n : ℕ) → 0 < n → v 0 + past v 0 n ≤ sum_below v n
 unfolding sum_below
 past_first v zero l = absurd (omega arith)
 past_first v (suc n) l =
-    ⊎_elim (λ h. omega (arith, past_first v n h, past_term v 0 n h))
-    (λ h. let e : 0 ≡ n = omega arith in omega (arith, none_past v 0 n h, no_term v 0 n h, ap v e)) (cases_lt 0 n)
+    grind (arith, nat_tests, l, past_first v n, none_past v 0 n)

@@ -7,7 +7,7 @@ use Rattle.records.specs.declared.Operator.{Operator}
 use Rattle.records.specs.declared.Operator.TheVariants.{Constant, Input, Read, Add, Subtract, And, Or, Xor, ShiftLeft, ShiftRight, Equal, Less}
 use Rattle.shape.specs.Shape.{Design, register_at, expression_at, given}
 use Rattle.design.proofs.Kept.{neither, none_breaks}
-use Rattle.actions.specs.Formulas.{constant, apply, read, operand, form_of, formula_as, formula_at, formula_below}
+use Rattle.actions.specs.Formulas.{constant, apply, read, operand, formula_as, formula_at, formula_below}
 use Rattle.actions.proofs.Evaluating.{opened_at}
 use Rattle.machine.specs.Links.{Whole}
 use Rattle.machine.proofs.Opening.{opens, opens_states}
@@ -50,7 +50,7 @@ module _ (d : Design) (n : ℕ) where
   asked x Equal = operands n x
   asked x Less = operands n x
 
-  uncut : (x : Expression) (op : Operator) → asked x op ≡ true → formula_as (form_of op) (formula_below d n) x ≡ formula_as (form_of op) (formula_at d) x
+  uncut : (x : Expression) (op : Operator) → asked x op ≡ true → formula_as op (formula_below d n) x ≡ formula_as op (formula_at d) x
   uncut x Constant e = refl
   uncut x Input e = refl
   uncut x Read e = ap (read x.a) (indexed (eqb (register_at d x.a).cells 1) x.b (and_parts (ltb x.a d.head.registers) (indexes d n x.a x.b) e).1)

@@ -21,10 +21,6 @@ exactly needed len = cond (len == needed) None (refuse 12 (needed ∷ []))
 abbrev pub at_least : ℕ → ℕ → Option Refusal
 at_least needed len = cond (nat_le needed len) None (refuse 12 (needed ∷ []))
 
-abbrev pub length_if : Option ℕ → Option Refusal
-length_if None = None
-length_if (Some needed) = refuse 12 (needed ∷ [])
-
 -- a cell's value is too wide for its register
 abbrev pub too_wide : Design → List (Labeled ℕ) → ℕ → Bool
 too_wide d cells j = not (nat_lt (slice_index_or cells j no_cell).value (2 ^ (register_at d (register_of d j)).width))

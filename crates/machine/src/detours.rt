@@ -1,5 +1,5 @@
 // A chain by its first command, and the context in which it runs.
-#[derive(Clone, Copy)]
+#[derive(Clone, Copy, Default)]
 pub struct Detour {
     pub link: Option<u32>,
     pub context: u32,

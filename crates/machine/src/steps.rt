@@ -7,12 +7,12 @@ ghost use Rattle.machine.specs.Cycle.{cycle};
 ghost use Rattle.machine.specs.Links.{Whole};
 ghost use Rattle.machine.specs.Lending.{Decides, start_verdict, step_verdict, first_pointers, left_by, laid, GoesOn};
 
-use crate::asked::{first_bad_cell, first_bad_step, wrong_memory, wrong_tables};
+use crate::asked::{check_cells, check_memory, check_step};
 use crate::chains::{Log, run_chain};
-use actions::Board;
+use actions::{Board, Memory};
 use design::Accepted;
 use lattice::Lattice;
-use records::{Labeled, Pointer, Report};
+use records::{Cell, Input, Pointer, Report};
 use rules::DesignFault;
 
 // Each pointer at its state's lowest child, at bottom.
@@ -21,9 +21,9 @@ fn set_pointers<L: Lattice>(design: &Accepted<L>, pointers: &mut [Pointer])
     ensures { pointers.new ≡ first_pointers (L.Lattice.model design.now.lattice).joins (owned design.now.records) }
 {
     let bottom = design.lattice().bottom();
-    for s in 0..design.tables().head.states {
-        pointers[s as usize] = Pointer {
-            value: design.state_facts(s).lowest_child,
+    for (s, pointer) in pointers.iter_mut().enumerate() {
+        *pointer = Pointer {
+            value: design.state_facts(s as u32).lowest_child,
             level: bottom,
         };
     }
@@ -32,19 +32,15 @@ fn set_pointers<L: Lattice>(design: &Accepted<L>, pointers: &mut [Pointer])
 // Starts a design on the cells it is lent: tests them, and sets the pointers. A refusal leaves all as it was.
 pub fn start<L: Lattice>(
     design: &Accepted<L>,
-    cells: &[Labeled<u32>],
+    cells: &[Cell],
     pointers: &mut [Pointer],
 ) -> Result<(), DesignFault>
     ensures answer { Decides refusal (start_verdict (L.Lattice.model design.now.lattice).joins (owned design.now.records) cells.now (length pointers.old)) (λ _. Unit {0}) result }
     ensures pointers { pointers.new ≡ left_by (start_verdict (L.Lattice.model design.now.lattice).joins (owned design.now.records) cells.now (length pointers.old)) (first_pointers (L.Lattice.model design.now.lattice).joins (owned design.now.records)) pointers.old }
     ensures goes_on { (start_verdict (L.Lattice.model design.now.lattice).joins (owned design.now.records) cells.now (length pointers.old)) ≡ None → GoesOn (L.Lattice.model design.now.lattice).joins (owned design.now.records) cells.now pointers.new }
 {
-    if let Some(needed) = wrong_memory(design, cells.len(), pointers.len()) {
-        return Err(DesignFault::WrongLength { needed });
-    }
-    if let Some(breach) = first_bad_cell(design, cells) {
-        return Err(DesignFault::Broken(breach));
-    }
+    check_memory(design, cells.len(), pointers.len())?;
+    check_cells(design, cells)?;
     set_pointers(design, pointers);
     Ok(())
 }
@@ -52,8 +48,8 @@ pub fn start<L: Lattice>(
 // One cycle, from the root on; its reports are counted.
 fn run_cycle<L: Lattice>(
     design: &Accepted<L>,
-    inputs: &[Labeled<u32>],
-    cells: &mut [Labeled<u32>],
+    inputs: &[Input],
+    cells: &mut [Cell],
     pointers: &mut [Pointer],
     reports: &mut [Report],
 ) -> u32
@@ -63,6 +59,7 @@ fn run_cycle<L: Lattice>(
     ensures count { result ≡ length (cycle (L.Lattice.model design.now.lattice).joins (owned design.now.records) inputs.now (memory_of cells.old pointers.old)).reports }
     ensures few { result ≤ (owned design.now.records).head.commands }
 {
+    let mut memory = Memory { cells, pointers };
     let mut log = Log {
         table: reports,
         count: 0,
@@ -70,7 +67,7 @@ fn run_cycle<L: Lattice>(
     let board = Board { design, inputs };
     let first = design.tables().state(0).first;
     let bottom = design.lattice().bottom();
-    run_chain(&board, Some(first), bottom, cells, pointers, &mut log);
+    run_chain(&board, Some(first), bottom, &mut memory, &mut log);
     log.count as u32
 }
 
@@ -78,8 +75,8 @@ fn run_cycle<L: Lattice>(
 // changes anything; a refusal leaves all as it was.
 pub fn step<L: Lattice>(
     design: &Accepted<L>,
-    inputs: &[Labeled<u32>],
-    cells: &mut [Labeled<u32>],
+    inputs: &[Input],
+    cells: &mut [Cell],
     pointers: &mut [Pointer],
     reports: &mut [Report],
 ) -> Result<u32, DesignFault>
@@ -89,12 +86,6 @@ pub fn step<L: Lattice>(
     ensures reports { reports.new ≡ left_by (step_verdict (L.Lattice.model design.now.lattice).joins (owned design.now.records) cells.old pointers.old inputs.now (length reports.old)) (laid (cycle (L.Lattice.model design.now.lattice).joins (owned design.now.records) inputs.now (memory_of cells.old pointers.old)).reports reports.old) reports.old }
     ensures goes_on { (step_verdict (L.Lattice.model design.now.lattice).joins (owned design.now.records) cells.old pointers.old inputs.now (length reports.old)) ≡ None → GoesOn (L.Lattice.model design.now.lattice).joins (owned design.now.records) cells.new pointers.new }
 {
-    let found = wrong_memory(design, cells.len(), pointers.len());
-    if let Some(needed) = wrong_tables(design, found, inputs.len(), reports.len()) {
-        return Err(DesignFault::WrongLength { needed });
-    }
-    if let Some(breach) = first_bad_step(design, cells, pointers, inputs) {
-        return Err(DesignFault::Broken(breach));
-    }
+    check_step(design, inputs, cells, pointers, reports.len())?;
     Ok(run_cycle(design, inputs, cells, pointers, reports))
 }

@@ -2,29 +2,39 @@
 #![tactic(auto)]
 
 ghost use Rattle.std.specs.Prelude.{◌≡◌};
+ghost use Rattle.std.specs.Iterator.{YieldsFirst, item_count};
 ghost use Rattle.lattice.specs.Bit.{bit};
-ghost use Rattle.members.specs.Members.{members, listed, Falls};
+ghost use Rattle.members.specs.Members.{members};
 
-// The lowest member of a set, and the set without it.
-#[derive(Clone, Copy)]
-pub struct Taken {
-    pub member: u32,
-    pub rest: u32,
+// The members of a set, lowest first.
+#[derive(Drop)]
+pub struct Members {
+    rest: u32,
 }
 
-// Takes the lowest member out of a set; none of the empty set.
-pub fn lowest(set: u32) -> Option<Taken>
-    ensures splits { members set ≡ listed result }
-    ensures falls { Falls set result }
-{
-    if set == 0 {
-        return None;
+impl Members {
+    pub fn of(set: u32) -> Members
+        ensures { result.rest ≡ set }
+    {
+        Members { rest: set }
     }
-    let member = set.trailing_zeros();
-    Some(Taken {
-        member,
-        rest: set & (set - 1),
-    })
+}
+
+impl Iterator for Members {
+    type Item = u32;
+
+    ghost next_gives = { YieldsFirst (λ s. members s.rest) };
+
+    ghost remaining = { item_count (λ s. members s.rest) };
+
+    fn next(&mut self) -> Option<u32> {
+        if self.rest == 0 {
+            return None;
+        }
+        let member = self.rest.trailing_zeros();
+        self.rest = self.rest & (self.rest - 1);
+        Some(member)
+    }
 }
 
 // Number t is in the set.
@@ -43,24 +53,13 @@ mod tests {
     fn takes_each_member(rt: HostRuntime) -> Result<(), Fail> {
         let cases: [(u32, &[u32]); 4] = [(0, &[]), (1, &[0]), (40, &[3, 5]), (0x8000_0000, &[31])];
         for (set, due) in cases {
-            let mut rest = set;
-            let mut taken = 0;
-            while let Some(t) = lowest(rest) {
-                assert!(rt; taken < due.len());
-                assert_eq!(rt; t.member, due[taken]);
-                rest = t.rest;
-                taken += 1;
-            }
-            assert_eq!(rt; taken, due.len());
+            let taken: Vec<u32> = Members::of(set).collect(rt.alloc())?;
+            assert_eq!(rt; taken.as_slice(), due);
         }
         // the full set has every number
-        let mut rest = 0xffff_ffff;
-        for number in 0..32 {
-            let t = lowest(rest).ok_or("too few members")?;
-            assert_eq!(rt; t.member, number);
-            rest = t.rest;
-        }
-        assert_eq!(rt; rest, 0);
+        let all: Vec<u32> = Members::of(0xffff_ffff).collect(rt.alloc())?;
+        let numbers: Vec<u32> = (0..32).collect(rt.alloc())?;
+        assert_eq!(rt; all.as_slice(), numbers.as_slice());
         Ok(())
     }
 }

@@ -9,7 +9,7 @@ use Rattle.records.specs.declared.Operator.TheVariants.{Constant, Input, Read, A
 use Rattle.records.specs.declared.Action.{Action}
 use Rattle.records.specs.declared.Action.TheVariants.{Set, Tag, If, Goto, Fall}
 use Rattle.reader.specs.Format.{mode, operator, action}
-use Rattle.reader.specs.Pieces.{shared, Leaves, Reads, Listed}
+use Rattle.reader.specs.Pieces.{shared, Leaves, Reads, Strips, Listed}
 use Rattle.reader.proofs.Sequences.{Apart, Free, shared_parts}
 use Rattle.reader.proofs.Shared.{shared_comm}
 
@@ -25,10 +25,7 @@ some_listed [] h = absurd (omega arith)
 some_listed (w ∷ all) h = (w, (0, h, refl))
 
 module _ {W : Type 0} (spelled : W → List ℕ) (all : List W) (after s : List ℕ) where
-  pub missed_none : Missed spelled all after s 0 (length s)
-  missed_none = (omega arith, λ j w h e. absurd (omega arith), inl refl)
-
-  missed_min : (i : ℕ) (least left : ℕ) (x : W) → i < length all → x ≡ get_or all i x → Missed spelled all after s i least → (shared (spelled x ++ after) s + left ≡ length s) × (shared (spelled x ++ after) s < length (spelled x ++ after)) → Missed spelled all after s (i + 1) (min least left)
+  missed_min : (i : ℕ) (least left : ℕ) (x : W) → i < length all → x ≡ get_or all i x → Missed spelled all after s i least → Strips (spelled x ++ after) s (Err left) → Missed spelled all after s (i + 1) (min least left)
   missed_min i least left x h is m stop = (
     omega (arith, m.0),
     (λ j w below e.
@@ -46,10 +43,10 @@ module _ {W : Type 0} (spelled : W → List ℕ) (all : List W) (after s : List 
         (cases_lt least left),
   )
 
-  pub missed_more : (i : ℕ) (least left n : ℕ) (x : W) → n ≡ min least left → i < length all → x ≡ get_or all i x → Missed spelled all after s i least → (t : List ℕ) → t ≡ spelled x → (shared (t ++ after) s + left ≡ length s) × (shared (t ++ after) s < length (t ++ after)) → Missed spelled all after s (i + 1) n
+  pub missed_more : (i : ℕ) (least left n : ℕ) (x : W) → n ≡ min least left → i < length all → x ≡ get_or all i x → Missed spelled all after s i least → (t : List ℕ) → t ≡ spelled x → Strips (t ++ after) s (Err left) → Missed spelled all after s (i + 1) n
   missed_more i least left n x e h is m t t_is stop =
       subst (Missed spelled all after s (i + 1)) (sym e)
-      (missed_min i least left x h is m (subst (λ u. (shared (u ++ after) s + left ≡ length s) × (shared (u ++ after) s < length (u ++ after))) t_is stop))
+      (missed_min i least left x h is m (subst (λ u. Strips (u ++ after) s (Err left)) t_is stop))
 
   pub missed_all : (least : ℕ) → 0 < length all → Missed spelled all after s (length all) least → Leaves (Listed all) (λ w. spelled w ++ after) s least
   missed_all least some m =

@@ -1,15 +1,15 @@
 -- A number and what parts it from the next piece, as one piece. Assumes nothing.
-use Rattle.std.proofs.Common.{◌≡◌, ℕ, suc, ◌+◌, ◌^◌, ◌<◌, ◌≤◌, ◌⊎◌, List, [], ◌∷◌, ◌++◌, length, get_or, take, drop, Some, None, decimal, sym, refl, ap, ◌∙◌, subst, inl, inr, ⊎_elim, append_assoc, arith, length-append}
+use Rattle.std.proofs.Common.{◌≡◌, ◌≢◌, ℕ, suc, ◌+◌, ◌^◌, ◌<◌, ◌≤◌, ◌⊎◌, List, [], ◌∷◌, ◌++◌, length, get_or, take, drop, Some, None, Err, decimal, sym, refl, ap, ◌∙◌, subst, inl, inr, ⊎_elim, append_assoc, arith, length-append}
 use Rattle.std.specs.Str.Parse.{AllDigits}
 use Rattle.std.proofs.lemmas.Fmt.{decimal_nonempty, digits_decimal, decimal_injective}
 use Rattle.std.proofs.lemmas.List.{length-take-le, take-append-drop, drop_more, drop_all}
 use Rattle.std.proofs.lemmas.Str.Parse.{digit_from_value}
 use Rattle.std.proofs.lemmas.Bool.{cases_eq, cases_lt}
 use Rattle.reader.specs.Format.{largest, Optional, optional}
-use Rattle.reader.specs.Pieces.{shared, Leaves, Extends, Longest, Parting}
+use Rattle.reader.specs.Pieces.{shared, Leaves, Extends, Strips, Longest, Parting}
 use Rattle.reader.proofs.Shared.{shared_same, shared_apart, shared_nil, shared_append, shared_comm}
 use Rattle.reader.proofs.Sequences.{Apart, Free, shared_parts}
-use Rattle.reader.proofs.Numbers.{own, digits_after, digit_extends, longest_written}
+use Rattle.reader.proofs.Numbers.{own, digit_behind, digit_extends, longest_written}
 
 -- how two texts stand to each other
 data Split (a b : List ℕ) : Type 0 where
@@ -49,15 +49,12 @@ shared_shorter d p after r x t e =
     ap (λ u. shared (d ++ after) (u ++ r)) e ∙ ap (λ u. shared (d ++ after) u) (append_assoc d (x ∷ t) r) ∙ shared_append d after (x ∷ (t ++ r))
 
 module _ (after : List ℕ) (limit : ℕ) (parting : Parting after) (h : limit < 2 ^ 64) where
-  text : ℕ → List ℕ
-  text w = decimal w ++ after
-
   pub number_free : Free (λ w. w ≤ limit) (λ w. decimal w ++ after)
   number_free v w okv okw = go (split (decimal v) (decimal w))
     where
       digit : (u : ℕ) (p t : List ℕ) (x : ℕ) → u ≤ limit → decimal u ≡ p ++ (x ∷ t) → 48 ≤ x
       digit u p t x ok e =
-          (digit_from_value x (digits_after p (x ∷ t) (subst (AllDigits 10) e (digits_decimal own u (omega arith)))).0).0
+          (digit_behind p t x (subst (AllDigits 10) e (digits_decimal own u (omega arith)))).0
 
       lengths : (u : ℕ) → length (decimal u ++ after) ≡ length (decimal u) + length after
       lengths u = length-append (decimal u) after
@@ -114,7 +111,7 @@ module _ (after : List ℕ) (limit : ℕ) (parting : Parting after) (h : limit <
             inr (omega (arith, q, z, whole, front_length), omega (arith, q, z, k, whole, size, front_length))
         go (shorter x t e) =
             let q = shared_shorter (decimal w) (take n s) after (drop n s) x t e in
-            let digit = (digit_from_value x (digits_after (decimal w) (x ∷ t) (subst (AllDigits 10) e l.digits)).0).0 in
+            let digit = (digit_behind (decimal w) t x (subst (AllDigits 10) e l.digits)).0 in
             let z = parted after x (t ++ drop n s) parting digit in
             let k = ap length e ∙ length-append (decimal w) (x ∷ t) in
             inr (omega (arith, q, z, k, whole, front_length), omega (arith, q, z, whole, size, parting.some))
@@ -137,7 +134,7 @@ module _ (after : List ℕ) (limit : ℕ) (parting : Parting after) (h : limit <
         )
 
     -- the number is there, and what parts it from the rest is not
-    pub number_parts : 0 < n → (left : ℕ) → (shared after (drop n s) + left ≡ length (drop n s)) × (shared after (drop n s) < length after) → Leaves (λ w. w ≤ limit) (λ w. decimal w ++ after) s left
+    pub number_parts : 0 < n → (left : ℕ) → Strips after (drop n s) (Err left) → Leaves (λ w. w ≤ limit) (λ w. decimal w ++ after) s left
     number_parts some left stop =
         let written : decimal v ≡ take n s = longest_written s limit v n h l some in
         let at_same : (w : ℕ) → decimal w ≡ take n s → shared (decimal w ++ after) s ≡ n + shared after (drop n s) =
@@ -159,10 +156,6 @@ module _ (after : List ℕ) (limit : ℕ) (parting : Parting after) (h : limit <
     number_reads some rest e =
         sym halves ∙ ap (λ u. u ++ drop n s) (sym (longest_written s limit v n h l some)) ∙ ap (λ u. decimal v ++ u) e ∙ sym (append_assoc (decimal v) after rest)
 
-pub front_one : (s : List ℕ) (x : ℕ) → 0 < x → get_or s 0 0 ≡ x → s ≡ x ∷ drop 1 s
-front_one [] x h e = absurd (omega arith)
-front_one (y ∷ s) x h e = ap (λ z. z ∷ s) e
-
 -- no number begins with `-`
 dashed : (w : ℕ) (after u : List ℕ) → w ≤ largest → (shared (decimal w ++ after) (45 ∷ u) ≡ 0) × (0 < length (decimal w ++ after))
 dashed w after u ok = go (decimal w) (digits_decimal own w (omega arith)) (decimal_nonempty w (omega arith))
@@ -173,7 +166,7 @@ dashed w after u ok = go (decimal w) (digits_decimal own w (omega arith)) (decim
 
 module _ (after : List ℕ) (parting : Parting after) where
   -- `-` is there, and what parts it from the rest is not
-  pub optional_dash : (s r : List ℕ) (left : ℕ) → s ≡ 45 ∷ r → (shared after r + left ≡ length r) × (shared after r < length after) → Leaves Optional (λ o. optional o ++ after) s left
+  pub optional_dash : (s r : List ℕ) (left : ℕ) → s ≡ 45 ∷ r → Strips after r (Err left) → Leaves Optional (λ o. optional o ++ after) s left
   optional_dash s r left is stop =
       let here : shared (45 ∷ after) s ≡ suc (shared after r) = ap (λ u. shared (45 ∷ after) u) is ∙ shared_same 45 45 after r refl in
       let number : (n : ℕ) → n ≤ largest → (shared (decimal n ++ after) s ≡ 0) × (0 < length (decimal n ++ after)) =
@@ -188,7 +181,7 @@ module _ (after : List ℕ) (parting : Parting after) where
       )
 
   -- no `-`, and no number either
-  pub optional_digits : (s : List ℕ) (left : ℕ) → (0 < length s → get_or s 0 0 ≡ 45 → ⊥) → Leaves (λ w. w ≤ largest) (λ w. decimal w ++ after) s left → Leaves Optional (λ o. optional o ++ after) s left
+  pub optional_digits : (s : List ℕ) (left : ℕ) → ((r : List ℕ) → s ≢ 45 ∷ r) → Leaves (λ w. w ≤ largest) (λ w. decimal w ++ after) s left → Leaves Optional (λ o. optional o ++ after) s left
   optional_digits s left other h =
       let st = h.2 in
       let here : shared (45 ∷ after) s ≡ 0 = undashed s other in (
@@ -201,9 +194,9 @@ module _ (after : List ℕ) (parting : Parting after) where
         },
       )
     where
-      undashed : (u : List ℕ) → (0 < length u → get_or u 0 0 ≡ 45 → ⊥) → shared (45 ∷ after) u ≡ 0
+      undashed : (u : List ℕ) → ((r : List ℕ) → u ≢ 45 ∷ r) → shared (45 ∷ after) u ≡ 0
       undashed [] f = shared_nil (45 ∷ after)
-      undashed (y ∷ u) f = shared_apart 45 y after u (λ e. f (omega arith) (sym e))
+      undashed (y ∷ u) f = shared_apart 45 y after u (λ e. f u (ap (λ z. z ∷ u) (sym e)))
 
   pub optional_free : Free Optional (λ o. optional o ++ after)
   optional_free None None _ _ = inl refl

@@ -1,12 +1,14 @@
 -- Decimal numbers, read digit by digit. Assumes nothing.
 use Rattle.std.proofs.Common.{◌≡◌, ℕ, suc, ◌+◌, ◌-◌, ◌*◌, ◌^◌, ◌<◌, ◌≤◌, ltb, ◌⊎◌, List, [], ◌∷◌, ◌++◌, length, get_or, take, decimal, sym, refl, ap, ◌∙◌, subst, inl, inr, ⊎_elim, arith, length-append}
-use Rattle.std.specs.Str.Parse.{AllDigits, digits_value, digits_value_after}
+use Rattle.std.specs.Str.Parse.{AllDigits, digits_value}
 use Rattle.std.specs.Char.{digit_value as value_of_digit}
 use Rattle.std.proofs.lemmas.Int.Digits.{digits_value_more, digits_more}
 use Rattle.std.proofs.lemmas.Fmt.{decimal_digit, decimal-digits_value, digits_decimal, digits_value-decimal, first_decimal}
-use Rattle.std.proofs.lemmas.List.{get_or-take, length-take-le}
-use Rattle.std.proofs.lemmas.Str.Parse.{IsNumeralModel, numerals_by_value, tells_digits, digit_from_value}
+use Rattle.std.proofs.lemmas.List.{get_or-take, get_or-append-add, length-take-le}
+use Rattle.std.proofs.lemmas.Str.Parse.{IsNumeralModel, numerals_by_value, tells_digits, digit_from_value, digit_at, digits_value-take-le}
 use Rattle.std.proofs.lemmas.Bool.{cond-true, cond-false, lt-ltb, le-ltb, cases_eq}
+use Rattle.std.proofs.Math.Seq.{take-append_seam}
+use Rattle.std.specs.Int.{IsInRange}
 use Rattle.reader.specs.Pieces.{Extends, Longest}
 
 pub digit_value : (c : ℕ) → 48 ≤ c → c ≤ 57 → value_of_digit c ≡ c - 48
@@ -25,17 +27,21 @@ lead_more s n v limit w x e start lead first =
     let here : get_or s n 0 ≡ 48 = ap (λ i. get_or s i 0) none ∙ first in
     (omega (arith, (lead first).0), omega arith)
 
-value_after_append : (n : ℕ) (a b : List ℕ) → digits_value_after 10 n (a ++ b) ≡ digits_value_after 10 (digits_value_after 10 n a) b
-value_after_append n [] b = refl
-value_after_append n (c ∷ a) b = value_after_append (n * 10 + value_of_digit c) a b
+behind : (p t : List ℕ) (e : ℕ) → get_or (p ++ (e ∷ t)) (length p) 0 ≡ e
+behind p t e = let z : length p ≡ length p + 0 = omega arith in ap (λ i. get_or (p ++ (e ∷ t)) i 0) z ∙ get_or-append-add p (e ∷ t) 0 0
 
-value_after_ge : (n : ℕ) (a : List ℕ) → n ≤ digits_value_after 10 n a
-value_after_ge n [] = omega arith
-value_after_ge n (c ∷ a) = omega (arith, value_after_ge (n * 10 + value_of_digit c) a)
+-- a digit behind other bytes, where all are digits
+pub digit_behind : (p t : List ℕ) (e : ℕ) → AllDigits 10 (p ++ (e ∷ t)) → IsInRange 48 57 e
+digit_behind p t e ds =
+    subst (IsInRange 48 57) (behind p t e) (digit_at (p ++ (e ∷ t)) (length p) ds (omega (arith, length-append p (e ∷ t))))
 
-pub digits_after : (a b : List ℕ) → AllDigits 10 (a ++ b) → AllDigits 10 b
-digits_after [] b h = h
-digits_after (c ∷ a) b h = digits_after a b h.1
+-- a number is no smaller than one that its first digits write
+front_value : (p t : List ℕ) (e : ℕ) → digits_value 10 p * 10 + value_of_digit e ≤ digits_value 10 (p ++ (e ∷ t))
+front_value p t e =
+    let d = p ++ (e ∷ t) in
+    let more = digits_value_more 10 d (length p) (omega (arith, length-append p (e ∷ t))) in
+    let first = ap (digits_value 10) (take-append_seam p (e ∷ t)) in
+    omega (arith, digits_value-take-le 10 d (length p + 1) (omega arith), more, first, ap value_of_digit (behind p t e))
 
 pub own : IsNumeralModel (AllDigits 10) (digits_value 10)
 own = numerals_by_value (AllDigits 10) tells_digits
@@ -47,7 +53,7 @@ zero_alone v (x ∷ p) t e h is z =
     let ds : AllDigits 10 (x ∷ (p ++ (e ∷ t))) = subst (AllDigits 10) is (digits_decimal own v h) in
     let r = digit_from_value x ds.0 in
     let d : value_of_digit x ≡ x - 48 = digit_value x r.0 r.1 in
-    let zero : x ≡ 48 = omega (arith, value_after_ge (0 * 10 + value_of_digit x) p) in
+    let zero : x ≡ 48 = omega (arith, front_value [] p x) in
     let first : get_or (decimal v) 0 0 ≡ 48 = ap (λ l. get_or l 0 0) is ∙ zero in
     ⊎_elim
     (λ none.
@@ -64,14 +70,14 @@ zero_alone v (x ∷ p) t e h is z =
 pub digit_extends : (v limit : ℕ) (p t : List ℕ) (e : ℕ) → v ≤ limit → v < 2 ^ 64 → decimal v ≡ p ++ (e ∷ t) → Extends (digits_value 10 p) (length p) e limit
 digit_extends v limit p t e low h is =
     let ds : AllDigits 10 (p ++ (e ∷ t)) = subst (AllDigits 10) is (digits_decimal own v h) in
-    let r = digit_from_value e (digits_after p (e ∷ t) ds).0 in
+    let r = digit_behind p t e ds in
     let d : value_of_digit e ≡ e - 48 = digit_value e r.0 r.1 in
-    let whole : digits_value_after 10 (digits_value 10 p) (e ∷ t) ≡ v = sym (value_after_append 0 p (e ∷ t)) ∙ ap (digits_value 10) (sym is) ∙ digits_value-decimal own v h in
+    let whole : digits_value 10 (p ++ (e ∷ t)) ≡ v = ap (digits_value 10) (sym is) ∙ digits_value-decimal own v h in
     record {
       low = r.0;
       high = r.1;
       lead = zero_alone v p t e h is;
-      within = omega (arith, value_after_ge (digits_value 10 p * 10 + value_of_digit e) t);
+      within = omega (arith, front_value p t e);
     }
 
 -- the longest number is written as the text has it

@@ -1,7 +1,7 @@
 -- Pieces read one after another. Assumes nothing.
 use Rattle.std.proofs.Common.{◌≡◌, ℕ, ◌+◌, ◌<◌, ◌≤◌, ◌⊎◌, List, ◌++◌, length, IsErrAnd, Ok, Err, Result, sym, ap, ◌∙◌, subst, ⊎_elim, append_assoc, arith, length-append, Bor}
 use Rattle.std.proofs.lemmas.Result.{err_from_is_err_and}
-use Rattle.reader.specs.Pieces.{shared, Leaves, Reads, Strips}
+use Rattle.reader.specs.Pieces.{shared, Leaves, Strips}
 use Rattle.reader.proofs.Shared.{shared_append, shared_short, shared_short_right}
 
 -- two texts, of which neither begins the other
@@ -69,16 +69,11 @@ module _ {A B : Type 0} (ok_a : A → Type 0) (a : A → List ℕ) (ok_b : B →
   reads_both s x r y t e f = e ∙ ap (λ u. a x ++ u) f ∙ sym (append_assoc (a x) (b y) t)
 
 -- the exit of a `?`: what it leaves is what the piece left
-pub exit : {V : Type 0} (ok : V → Type 0) (text : V → List ℕ) (s : List ℕ) (left : ℕ) (r : Result (V × Bor (List ℕ)) ℕ) → IsErrAnd r (λ y. y ≡ left) → Leaves ok text s left → Reads ok text s r
-exit ok text s left r h l = let p = err_from_is_err_and r h in subst (Reads ok text s) (sym p.1) (subst (Leaves ok text s) (sym p.2) l)
-
-pub strips_exit : (due s : List ℕ) (left : ℕ) (r : Result (Bor (List ℕ)) ℕ) → IsErrAnd r (λ y. y ≡ left) → (shared due s + left ≡ length s) × (shared due s < length due) → Strips due s r
-strips_exit due s left r h l =
-    let p = err_from_is_err_and r h in
-    subst (Strips due s) (sym p.1) (subst (λ n. (shared due s + n ≡ length s) × (shared due s < length due)) (sym p.2) l)
+pub exit : {T E : Type 0} (P : Result T E → Type 0) (left : E) (r : Result T E) → IsErrAnd r (λ y. y ≡ left) → P (Err left) → P r
+exit P left r h l = let p = err_from_is_err_and r h in rw (p.1, p.2) l
 
 -- two texts one after the other
-pub strips_first : (a b s : List ℕ) (left : ℕ) → (shared a s + left ≡ length s) × (shared a s < length a) → (shared (a ++ b) s + left ≡ length s) × (shared (a ++ b) s < length (a ++ b))
+pub strips_first : (a b s : List ℕ) (left : ℕ) → Strips a s (Err left) → Strips (a ++ b) s (Err left)
 strips_first a b s left h =
     let e = shared_short a b s h.1 in
     (omega (arith, e, h.0), omega (arith, e, h.1, length-append a b))

@@ -10,7 +10,7 @@ use Rattle.reader.specs.declared.sections.Section.{Section}
 use Rattle.reader.specs.declared.sections.Step.{Step}
 use Rattle.reader.specs.Format.{key, values, write, Goes, inputs, cells, commands, expressions, states, registers, ports, rows, planned, counted}
 use Rattle.reader.specs.Pieces.{shared}
-use Rattle.reader.specs.Reading.{ends, Refused, Run, Run.none, Run.more, Whole, Exact}
+use Rattle.reader.specs.Texts.{ends, Refused, Run, Run.none, Run.more, Whole, Exact}
 use Rattle.reader.proofs.Shared.{shared_append}
 use Rattle.reader.proofs.Sequences.{Apart, shared_parts}
 use Rattle.reader.proofs.Grammar.{line_free, levels_kind, row_kind, head_kind, port_kind, register_kind, state_kind, expression_kind, command_kind, cell_kind, input_kind}
@@ -20,11 +20,11 @@ due_free : (s : Section) (p q : Step) → Goes s p → Goes s q → (p ≡ q) �
 due_free Section.Levels p q g h = line_free levels_kind rows p q g h
 due_free (Section.Rows n) p q g h = line_free row_kind (λ _. rows (n - 1)) p q g h
 due_free Section.Head p q g h = line_free head_kind (λ x. ports (planned x) x.ports) p q g h
-due_free (Section.Ports n x) p q g h = line_free port_kind (λ _. ports x (n - 1)) p q g h
-due_free (Section.Registers n x) p q g h = line_free register_kind (λ r. registers (counted x r) (n - 1)) p q g h
-due_free (Section.States n x) p q g h = line_free state_kind (λ _. states x (n - 1)) p q g h
-due_free (Section.Expressions n x) p q g h = line_free expression_kind (λ _. expressions x (n - 1)) p q g h
-due_free (Section.Commands n x) p q g h = line_free command_kind (λ _. commands x (n - 1)) p q g h
+due_free (Section.Ports a) p q g h = line_free port_kind (λ _. ports a.plan (a.left - 1)) p q g h
+due_free (Section.Registers a) p q g h = line_free register_kind (λ r. registers (counted a.plan r) (a.left - 1)) p q g h
+due_free (Section.States a) p q g h = line_free state_kind (λ _. states a.plan (a.left - 1)) p q g h
+due_free (Section.Expressions a) p q g h = line_free expression_kind (λ _. expressions a.plan (a.left - 1)) p q g h
+due_free (Section.Commands a) p q g h = line_free command_kind (λ _. commands a.plan (a.left - 1)) p q g h
 due_free (Section.Cells n x) p q g h = line_free cell_kind (λ _. cells x (n - 1)) p q g h
 due_free (Section.Inputs n) p q g h = line_free input_kind (λ _. inputs (n - 1)) p q g h
 due_free Section.End p q g h = inl (g ∙ sym h)

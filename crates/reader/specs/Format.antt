@@ -10,8 +10,7 @@ use Rattle.records.specs.declared.Register.{Register}
 use Rattle.records.specs.declared.State.{State}
 use Rattle.records.specs.declared.Expression.{Expression}
 use Rattle.records.specs.declared.Command.{Command}
-use Rattle.records.specs.declared.Cell.{Cell}
-use Rattle.records.specs.declared.Input.{Input}
+use Rattle.records.specs.declared.Labeled.{Labeled}
 use Rattle.records.specs.declared.Mode.{Mode}
 use Rattle.records.specs.declared.Mode.TheVariants.{Enforced, Dynamic}
 use Rattle.records.specs.declared.Operator.{Operator}
@@ -70,6 +69,10 @@ field value between rest = (value ++ codes between) ++ rest
 abbrev last : List ℕ → List ℕ
 last value = value ++ 10 ∷ []
 
+-- a value and its level, as cells and inputs have them
+abbrev pub labeled : Labeled ℕ → List ℕ
+labeled x = field (decimal x.value) " level=" (last (decimal x.level))
+
 -- the key at the head of a line
 abbrev pub key : Line → List ℕ
 key (Line.Levels n) = codes "levels="
@@ -100,8 +103,8 @@ values (Line.Expression e) = field (operator e.op) " a=" (field (decimal e.a) " 
 values (Line.Command c) =
     field (action c.action) " x=" (field (optional c.x) " i=" (field (optional c.i) " e=" (
     field (optional c.e) " next=" (field (optional c.next) " alt=" (last (optional c.alt))))))
-values (Line.Cell c) = field (decimal c.value) " level=" (last (decimal c.level))
-values (Line.Input i) = field (decimal i.value) " level=" (last (decimal i.level))
+values (Line.Cell c) = labeled c
+values (Line.Input i) = labeled i
 values Line.End = []
 
 -- a line as it is written; the end of the text is nothing
@@ -127,11 +130,14 @@ ExpressionFits e = Number e.a × Optional e.b
 abbrev pub CommandFits : Command → Type 0
 CommandFits c = Optional c.x × Optional c.i × Optional c.e × Optional c.next × Optional c.alt
 
-abbrev pub CellFits : Cell → Type 0
-CellFits c = Number c.value × Number c.level
+abbrev pub LabeledFits : Labeled ℕ → Type 0
+LabeledFits x = Number x.value × Number x.level
 
-abbrev pub InputFits : Input → Type 0
-InputFits i = Number i.value × Number i.level
+abbrev pub CellFits : Labeled ℕ → Type 0
+CellFits = LabeledFits
+
+abbrev pub InputFits : Labeled ℕ → Type 0
+InputFits = LabeledFits
 
 -- The section in which n lines of a kind are still due; where none is, it is passed over.
 abbrev pub inputs : ℕ → Section
@@ -142,19 +148,19 @@ abbrev pub cells : Head → ℕ → Section
 cells h n = cond (nat_lt 0 n) (Section.Cells n h) (inputs (h.ports * h.cycles))
 
 abbrev pub commands : Plan → ℕ → Section
-commands p n = cond (nat_lt 0 n) (Section.Commands n p) (cells p.head p.cells)
+commands p n = cond (nat_lt 0 n) (Section.Commands (record { left = n; plan = p })) (cells p.head p.cells)
 
 abbrev pub expressions : Plan → ℕ → Section
-expressions p n = cond (nat_lt 0 n) (Section.Expressions n p) (commands p p.head.commands)
+expressions p n = cond (nat_lt 0 n) (Section.Expressions (record { left = n; plan = p })) (commands p p.head.commands)
 
 abbrev pub states : Plan → ℕ → Section
-states p n = cond (nat_lt 0 n) (Section.States n p) (expressions p p.head.expressions)
+states p n = cond (nat_lt 0 n) (Section.States (record { left = n; plan = p })) (expressions p p.head.expressions)
 
 abbrev pub registers : Plan → ℕ → Section
-registers p n = cond (nat_lt 0 n) (Section.Registers n p) (states p p.head.states)
+registers p n = cond (nat_lt 0 n) (Section.Registers (record { left = n; plan = p })) (states p p.head.states)
 
 abbrev pub ports : Plan → ℕ → Section
-ports p n = cond (nat_lt 0 n) (Section.Ports n p) (registers p p.head.registers)
+ports p n = cond (nat_lt 0 n) (Section.Ports (record { left = n; plan = p })) (registers p p.head.registers)
 
 abbrev pub rows : ℕ → Section
 rows n = cond (nat_lt 0 n) (Section.Rows n) Section.Head
@@ -175,11 +181,11 @@ abbrev pub Goes : Section → Step → Type 0
 Goes Section.Levels = Of Line.Levels Number rows
 Goes (Section.Rows n) = Of Line.Row Number (λ _. rows (n - 1))
 Goes Section.Head = Of Line.Head HeadFits (λ h. ports (planned h) h.ports)
-Goes (Section.Ports n p) = Of Line.Port PortFits (λ _. ports p (n - 1))
-Goes (Section.Registers n p) = Of Line.Register RegisterFits (λ r. registers (counted p r) (n - 1))
-Goes (Section.States n p) = Of Line.State StateFits (λ _. states p (n - 1))
-Goes (Section.Expressions n p) = Of Line.Expression ExpressionFits (λ _. expressions p (n - 1))
-Goes (Section.Commands n p) = Of Line.Command CommandFits (λ _. commands p (n - 1))
+Goes (Section.Ports a) = Of Line.Port PortFits (λ _. ports a.plan (a.left - 1))
+Goes (Section.Registers a) = Of Line.Register RegisterFits (λ r. registers (counted a.plan r) (a.left - 1))
+Goes (Section.States a) = Of Line.State StateFits (λ _. states a.plan (a.left - 1))
+Goes (Section.Expressions a) = Of Line.Expression ExpressionFits (λ _. expressions a.plan (a.left - 1))
+Goes (Section.Commands a) = Of Line.Command CommandFits (λ _. commands a.plan (a.left - 1))
 Goes (Section.Cells n h) = Of Line.Cell CellFits (λ _. cells h (n - 1))
 Goes (Section.Inputs n) = Of Line.Input InputFits (λ _. inputs (n - 1))
 Goes Section.End = λ p. p ≡ record { line = Line.End; next = Section.End }

@@ -1,3 +1,4 @@
 pub mod Pieces
 pub mod Format
+pub mod Texts
 pub mod Reading

@@ -1,13 +1,12 @@
 -- What it is to read one of many texts from the beginning of a text, and where such a reading stops. Assumes nothing.
-use Rattle.std.specs.Prelude.{◌≡◌, ℕ, suc, ◌+◌, ◌-◌, ◌*◌, ◌<◌, ◌≤◌, cond, List, [], ◌∷◌, ◌++◌, length, get_or, take, Ok, Err, Result, ◌==◌, slice_index, slice_index_or}
+use Rattle.std.specs.Prelude.{◌≡◌, ℕ, ◌+◌, ◌-◌, ◌*◌, ◌<◌, ◌≤◌, List, ◌++◌, length, get_or, take, Ok, Err, Result, slice_index, slice_index_or, nat_eq}
 use Rattle.std.specs.Borrow.{Bor}
+use Rattle.std.specs.List.{common_prefix_len}
 use Rattle.std.specs.Str.Parse.{AllDigits, digits_value}
 
 -- how many bytes two texts share from their beginnings
 unfoldable pub shared : List ℕ → List ℕ → ℕ
-shared [] ys = 0
-shared (x ∷ xs) [] = 0
-shared (x ∷ xs) (y ∷ ys) = cond (x == y) (suc (shared xs ys)) 0
+shared = common_prefix_len nat_eq
 
 -- Of the texts `text v`, where `ok v`: s shares k bytes with one of them, more with none, and has none of them whole.
 pub record Stops {V : Type 0} (ok : V → Type 0) (text : V → List ℕ) (s : List ℕ) (k : ℕ) : Type 0 where

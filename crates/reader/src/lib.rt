@@ -1,9 +1,8 @@
 // The reader of a design's text, line by line. `Format` of the specs has the grammar, `Reading` what the reader answers.
 #![tactic(auto)]
 
-ghost use Rattle.std.specs.Prelude.{◌≡◌, MatchBool};
-ghost use Rattle.reader.specs.Pieces.{Strips};
-ghost use Rattle.reader.specs.Reading.{Opens, Answered, Sound, Taken, Exact, cells_so_far, due_key};
+ghost use Rattle.std.specs.Prelude.{◌+◌, ◌*◌, ◌^◌, ◌≤◌, length};
+ghost use Rattle.reader.specs.Texts.{most_bytes, cells_so_far, Exact};
 
 use records::LineFault;
 
@@ -12,7 +11,7 @@ mod pieces;
 mod sections;
 mod words;
 
-pub use sections::{Line, Plan, Section, Step};
+pub use sections::{Ahead, Line, Plan, Section, Step};
 
 // The most bytes that a text may have.
 pub const MOST_BYTES: usize = 60_000;
@@ -24,9 +23,14 @@ pub struct Reader<'a> {
     // The number of the line that is due, from 1.
     line: u32,
     section: Section,
+    // Each line took at least a byte, and counted less than 2 ^ 32 cells: so neither number grows past its type.
+    pub ghost short: { line + length rest.now ≤ most_bytes + 1 },
+    pub ghost counted: { cells_so_far section ≤ line * 2 ^ 32 },
 }
 
 impl<'a> Reader<'a> {
+    ghost use Rattle.reader.specs.Reading.{Opens, Answered};
+
     pub fn new(text: &'a [u8]) -> Result<Reader<'a>, LineFault>
         ensures { Opens text.now result }
     {
@@ -44,116 +48,21 @@ impl<'a> Reader<'a> {
     pub fn read_line(&mut self) -> Result<Line, LineFault>
         ensures { Answered self.old result self.new }
     {
-        if !self.is_sound() {
-            return Err(LineFault::TooLong);
-        }
-        match (self.section, strip_key(self.section, self.rest)) {
-            (_, Err(left)) => self.take(Err(left)),
-            (Section::Levels, Ok(value)) => self.take(lines::levels(value)),
-            (Section::Rows(left), Ok(value)) => self.take(lines::row(value, left)),
-            (Section::Head, Ok(value)) => self.take(lines::head(value)),
-            (Section::Ports(left, plan), Ok(value)) => self.take(lines::port(value, left, plan)),
-            (Section::Registers(left, plan), Ok(value)) => self.take(lines::register(
-                value, left, plan,
-            )),
-            (Section::States(left, plan), Ok(value)) => self.take(lines::state(value, left, plan)),
-            (Section::Expressions(left, plan), Ok(value)) => self.take(lines::expression(
-                value, left, plan,
-            )),
-            (Section::Commands(left, plan), Ok(value)) => self.take(lines::command(
-                value, left, plan,
-            )),
-            (Section::Cells(left, head), Ok(value)) => self.take(lines::cell(value, left, head)),
-            (Section::Inputs(left), Ok(value)) => self.take(lines::input(value, left)),
-            (Section::End, Ok([])) => Ok(Line::End),
-            (Section::End, Ok(more)) => self.take(Err(more.len())),
-        }
-    }
-
-    // Moves on by the line that was read, or says where the reading stopped.
-    fn take(&mut self, read: Result<(Step, &'a [u8]), usize>) -> Result<Line, LineFault>
-        requires { Sound self.old }
-        ensures { Taken self.old read.entry result self.new }
-    {
-        match read {
+        match lines::due(self.section, self.rest) {
             Ok((step, rest)) => {
                 self.rest = rest;
-                self.line += 1;
+                self.line += u32::from(!step.line.is_end());
                 self.section = step.next;
                 Ok(step.line)
             }
             Err(left) => {
-                let byte = self.rest.len().saturating_sub(left) + 1;
+                let byte = self.rest.len() - left + 1;
                 Err(LineFault::NotDue {
                     line: self.line,
                     byte: byte as u32,
                 })
             }
         }
-    }
-
-    // What holds of every reader that `new` made. The sums of a reader then fit their types.
-    fn is_sound(&self) -> bool
-        ensures { MatchBool result (Sound self.now) (Sound self.now → ⊥) }
-    {
-        let len = self.rest.len();
-        if len > MOST_BYTES + 1 {
-            return false;
-        }
-        let short = self.line as usize + len <= MOST_BYTES + 1;
-        let counted = cells_so_far(self.section) <= u64::from(self.line) * (1 << 32);
-        short & counted
-    }
-}
-
-fn cells_so_far(section: Section) -> u64
-    ensures { result ≡ cells_so_far section }
-{
-    match section {
-        Section::Ports(_, plan) | Section::Registers(_, plan) => plan.cells,
-        Section::Levels
-        | Section::Rows(_)
-        | Section::Head
-        | Section::States(..)
-        | Section::Expressions(..) => 0,
-        Section::Commands(..) | Section::Cells(..) | Section::Inputs(_) | Section::End => 0,
-    }
-}
-
-// The text behind the key of the line that is due.
-fn strip_key<'a>(section: Section, text: &'a [u8]) -> Result<&'a [u8], usize>
-    ensures { Strips (due_key section) text.now result }
-{
-    match (section, text) {
-        (Section::Levels, [b'l', b'e', b'v', b'e', b'l', b's', b'=', rest @ ..]) => Ok(rest),
-        (Section::Rows(_), [b'r', b'o', b'w', b'=', rest @ ..]) => Ok(rest),
-        (Section::Head, [b'p', b'o', b'r', b't', b's', b'=', rest @ ..]) => Ok(rest),
-        (Section::Ports(..), [b'w', b'i', b'd', b't', b'h', b'=', rest @ ..]) => Ok(rest),
-        (Section::Registers(..), [b'w', b'i', b'd', b't', b'h', b'=', rest @ ..]) => Ok(rest),
-        (Section::States(..), [b'p', b'a', b'r', b'e', b'n', b't', b'=', rest @ ..]) => Ok(rest),
-        (Section::Expressions(..), [b'o', b'p', b'=', rest @ ..]) => Ok(rest),
-        (Section::Commands(..), [b'd', b'o', b'=', rest @ ..]) => Ok(rest),
-        (Section::Cells(..), [b'v', b'a', b'l', b'u', b'e', b'=', rest @ ..]) => Ok(rest),
-        (Section::Inputs(_), [b'i', b'n', b'=', rest @ ..]) => Ok(rest),
-        // Another key, or none: how far the text goes with the one that is due.
-        _ => pieces::literal(text, key_of(section)),
-    }
-}
-
-fn key_of(section: Section) -> &'static [u8]
-    ensures { result.now ≡ due_key section }
-{
-    match section {
-        Section::Levels => b"levels=",
-        Section::Rows(_) => b"row=",
-        Section::Head => b"ports=",
-        Section::Ports(..) | Section::Registers(..) => b"width=",
-        Section::States(..) => b"parent=",
-        Section::Expressions(..) => b"op=",
-        Section::Commands(..) => b"do=",
-        Section::Cells(..) => b"value=",
-        Section::Inputs(_) => b"in=",
-        Section::End => b"",
     }
 }
 
@@ -162,11 +71,8 @@ pub fn count_lines(text: &[u8]) -> Result<u32, LineFault>
     ensures { Exact text.now result }
 {
     let mut reader = Reader::new(text)?;
-    loop {
-        if let Line::End = reader.read_line()? {
-            return Ok(reader.line.saturating_sub(1));
-        }
-    }
+    while !reader.read_line()?.is_end() {}
+    Ok(reader.line - 1)
 }
 
 #[cfg(test)]

@@ -1,43 +1,59 @@
 // The lines of each kind, from behind the key at their head. A reader of a line answers it with the section that follows and
 // the rest of the text, or how many bytes are left at the first one with which no such line goes on.
 ghost use Rattle.std.specs.Prelude.{◌+◌, ◌^◌, ◌≤◌};
-ghost use Rattle.reader.specs.Format.{Goes, values};
+ghost use Rattle.reader.specs.Format.{Goes, values, labeled, LabeledFits};
 ghost use Rattle.reader.specs.Pieces.{Reads};
+ghost use Rattle.reader.specs.Texts.{cells_so_far, Due};
 
-use crate::pieces::{number, optional_number};
-use crate::sections::{Line, Plan, Section, Step};
+use crate::pieces::{Read, literal, number, optional_number};
+use crate::sections::{Ahead, Line, Plan, Section, Step};
 use crate::{sections, words};
-use records::{Cell, Command, Expression, Head, Input, Port, Register, State};
+use records::{Command, Expression, Head, Labeled, Port, Register, State};
 
 const MOST_CYCLES: u32 = 10_000;
 
-pub(crate) fn levels(text: &[u8]) -> Result<(Step, &[u8]), usize>
+// The line that is due in the section, from the beginning of its key.
+// The caller sees to it that the cells counted so far leave room for those of another register.
+#[tactic(auto, using(crate::proofs::Answering::valued))]
+pub(crate) fn due(section: Section, text: &[u8]) -> Read<'_, Step>
+    requires { cells_so_far section + 2 ^ 32 ≤ 2 ^ 64 }
+    ensures { Due section text.now result }
+{
+    let value = literal(text, section.key())?;
+    match section {
+        Section::Levels => levels(value),
+        Section::Rows(left) => row(value, left),
+        Section::Head => head(value),
+        Section::Ports(ahead) => port(value, ahead),
+        Section::Registers(ahead) => register(value, ahead),
+        Section::States(ahead) => state(value, ahead),
+        Section::Expressions(ahead) => expression(value, ahead),
+        Section::Commands(ahead) => command(value, ahead),
+        Section::Cells(left, head) => cell(value, left, head),
+        Section::Inputs(left) => input(value, left),
+        Section::End => end(value),
+    }
+}
+
+fn levels(text: &[u8]) -> Read<'_, Step>
     ensures { Reads (Goes Section.Levels) (λ s. values s.line) text.now result }
 {
     let (n, rest) = number(text, u32::MAX, b"\n")?;
-    Ok((
-        Step {
-            line: Line::Levels(n),
-            next: sections::rows(n),
-        },
-        rest,
-    ))
+    let line = Line::Levels(n);
+    let next = sections::rows(n);
+    Ok((Step { line, next }, rest))
 }
 
-pub(crate) fn row(text: &[u8], left: u32) -> Result<(Step, &[u8]), usize>
+fn row(text: &[u8], left: u32) -> Read<'_, Step>
     ensures { Reads (Goes (Section.Rows left)) (λ s. values s.line) text.now result }
 {
     let (n, rest) = number(text, u32::MAX, b"\n")?;
-    Ok((
-        Step {
-            line: Line::Row(n),
-            next: sections::rows(left.saturating_sub(1)),
-        },
-        rest,
-    ))
+    let line = Line::Row(n);
+    let next = sections::rows(left.saturating_sub(1));
+    Ok((Step { line, next }, rest))
 }
 
-pub(crate) fn head(text: &[u8]) -> Result<(Step, &[u8]), usize>
+fn head(text: &[u8]) -> Read<'_, Step>
     ensures { Reads (Goes Section.Head) (λ s. values s.line) text.now result }
 {
     let (ports, rest) = number(text, u32::MAX, b" registers=")?;
@@ -54,33 +70,26 @@ pub(crate) fn head(text: &[u8]) -> Result<(Step, &[u8]), usize>
         commands,
         cycles,
     };
-    let plan = Plan { head, cells: 0 };
-    Ok((
-        Step {
-            line: Line::Head(head),
-            next: sections::ports(plan, ports),
-        },
-        rest,
-    ))
+    let line = Line::Head(head);
+    let next = sections::ports(Ahead {
+        left: ports,
+        plan: Plan { head, cells: 0 },
+    });
+    Ok((Step { line, next }, rest))
 }
 
-pub(crate) fn port(text: &[u8], left: u32, plan: Plan) -> Result<(Step, &[u8]), usize>
-    ensures { Reads (Goes (Section.Ports left plan)) (λ s. values s.line) text.now result }
+fn port(text: &[u8], ahead: Ahead) -> Read<'_, Step>
+    ensures { Reads (Goes (Section.Ports ahead)) (λ s. values s.line) text.now result }
 {
     let (width, rest) = number(text, u32::MAX, b"\n")?;
-    Ok((
-        Step {
-            line: Line::Port(Port { width }),
-            next: sections::ports(plan, left.saturating_sub(1)),
-        },
-        rest,
-    ))
+    let line = Line::Port(Port { width });
+    let next = sections::ports(ahead.after_one());
+    Ok((Step { line, next }, rest))
 }
 
-// The caller sees to it that the cells counted so far leave room for those of another register.
-pub(crate) fn register(text: &[u8], left: u32, plan: Plan) -> Result<(Step, &[u8]), usize>
-    requires { plan.cells + 2 ^ 32 ≤ 2 ^ 64 }
-    ensures { Reads (Goes (Section.Registers left plan)) (λ s. values s.line) text.now result }
+fn register(text: &[u8], ahead: Ahead) -> Read<'_, Step>
+    requires { ahead.plan.cells + 2 ^ 32 ≤ 2 ^ 64 }
+    ensures { Reads (Goes (Section.Registers ahead)) (λ s. values s.line) text.now result }
 {
     let (width, rest) = number(text, u32::MAX, b" cells=")?;
     let (cells, rest) = number(rest, u32::MAX, b" mode=")?;
@@ -93,20 +102,18 @@ pub(crate) fn register(text: &[u8], left: u32, plan: Plan) -> Result<(Step, &[u8
         floor,
     });
     let plan = Plan {
-        head: plan.head,
-        cells: plan.cells + u64::from(cells),
+        cells: ahead.plan.cells + u64::from(cells),
+        ..ahead.plan
     };
-    Ok((
-        Step {
-            line,
-            next: sections::registers(plan, left.saturating_sub(1)),
-        },
-        rest,
-    ))
+    let next = sections::registers(Ahead {
+        plan,
+        ..ahead.after_one()
+    });
+    Ok((Step { line, next }, rest))
 }
 
-pub(crate) fn state(text: &[u8], left: u32, plan: Plan) -> Result<(Step, &[u8]), usize>
-    ensures { Reads (Goes (Section.States left plan)) (λ s. values s.line) text.now result }
+fn state(text: &[u8], ahead: Ahead) -> Read<'_, Step>
+    ensures { Reads (Goes (Section.States ahead)) (λ s. values s.line) text.now result }
 {
     let (parent, rest) = optional_number(text, b" mode=")?;
     let (mode, rest) = words::mode(rest, b" level=")?;
@@ -118,33 +125,23 @@ pub(crate) fn state(text: &[u8], left: u32, plan: Plan) -> Result<(Step, &[u8]),
         level,
         first,
     });
-    Ok((
-        Step {
-            line,
-            next: sections::states(plan, left.saturating_sub(1)),
-        },
-        rest,
-    ))
+    let next = sections::states(ahead.after_one());
+    Ok((Step { line, next }, rest))
 }
 
-pub(crate) fn expression(text: &[u8], left: u32, plan: Plan) -> Result<(Step, &[u8]), usize>
-    ensures { Reads (Goes (Section.Expressions left plan)) (λ s. values s.line) text.now result }
+fn expression(text: &[u8], ahead: Ahead) -> Read<'_, Step>
+    ensures { Reads (Goes (Section.Expressions ahead)) (λ s. values s.line) text.now result }
 {
     let (op, rest) = words::operator(text, b" a=")?;
     let (a, rest) = number(rest, u32::MAX, b" b=")?;
     let (b, rest) = optional_number(rest, b"\n")?;
     let line = Line::Expression(Expression { op, a, b });
-    Ok((
-        Step {
-            line,
-            next: sections::expressions(plan, left.saturating_sub(1)),
-        },
-        rest,
-    ))
+    let next = sections::expressions(ahead.after_one());
+    Ok((Step { line, next }, rest))
 }
 
-pub(crate) fn command(text: &[u8], left: u32, plan: Plan) -> Result<(Step, &[u8]), usize>
-    ensures { Reads (Goes (Section.Commands left plan)) (λ s. values s.line) text.now result }
+fn command(text: &[u8], ahead: Ahead) -> Read<'_, Step>
+    ensures { Reads (Goes (Section.Commands ahead)) (λ s. values s.line) text.now result }
 {
     let (action, rest) = words::action(text, b" x=")?;
     let (x, rest) = optional_number(rest, b" i=")?;
@@ -160,41 +157,44 @@ pub(crate) fn command(text: &[u8], left: u32, plan: Plan) -> Result<(Step, &[u8]
         next,
         alt,
     });
-    Ok((
-        Step {
-            line,
-            next: sections::commands(plan, left.saturating_sub(1)),
-        },
-        rest,
-    ))
+    let next = sections::commands(ahead.after_one());
+    Ok((Step { line, next }, rest))
 }
 
-pub(crate) fn cell(text: &[u8], left: u64, head: Head) -> Result<(Step, &[u8]), usize>
+fn cell(text: &[u8], left: u64, head: Head) -> Read<'_, Step>
     ensures { Reads (Goes (Section.Cells left head)) (λ s. values s.line) text.now result }
 {
-    let (value, rest) = number(text, u32::MAX, b" level=")?;
-    let (level, rest) = number(rest, u32::MAX, b"\n")?;
-    let line = Line::Cell(Cell { value, level });
-    Ok((
-        Step {
-            line,
-            next: sections::cells(head, left.saturating_sub(1)),
-        },
-        rest,
-    ))
+    let (cell, rest) = labeled(text)?;
+    let line = Line::Cell(cell);
+    let next = sections::cells(head, left.saturating_sub(1));
+    Ok((Step { line, next }, rest))
 }
 
-pub(crate) fn input(text: &[u8], left: u64) -> Result<(Step, &[u8]), usize>
+fn input(text: &[u8], left: u64) -> Read<'_, Step>
     ensures { Reads (Goes (Section.Inputs left)) (λ s. values s.line) text.now result }
+{
+    let (input, rest) = labeled(text)?;
+    let line = Line::Input(input);
+    let next = sections::inputs(left.saturating_sub(1));
+    Ok((Step { line, next }, rest))
+}
+
+fn labeled(text: &[u8]) -> Read<'_, Labeled<u32>>
+    ensures { Reads LabeledFits labeled text.now result }
 {
     let (value, rest) = number(text, u32::MAX, b" level=")?;
     let (level, rest) = number(rest, u32::MAX, b"\n")?;
-    let line = Line::Input(Input { value, level });
-    Ok((
-        Step {
-            line,
-            next: sections::inputs(left.saturating_sub(1)),
-        },
-        rest,
-    ))
+    Ok((Labeled { value, level }, rest))
+}
+
+#[tactic(auto, using(crate::proofs::Answering::past_end))]
+fn end(text: &[u8]) -> Read<'_, Step>
+    ensures { Due Section.End text.now result }
+{
+    if !text.is_empty() {
+        return Err(text.len());
+    }
+    let line = Line::End;
+    let next = Section::End;
+    Ok((Step { line, next }, text))
 }

@@ -4,21 +4,21 @@ ghost use Rattle.std.specs.Prelude.{◌≡◌, ℕ, ◌+◌, ◌-◌, ◌*◌, �
 ghost use Rattle.reader.specs.Format.{Optional, optional};
 ghost use Rattle.reader.specs.Pieces.{shared, Reads, Strips, Extends, Longest, Parting, Listed};
 
+// The error is one count, and no struct: each reader would only take it out again.
+pub(crate) type Read<'a, T> = Result<(T, &'a [u8]), usize>;
+
 // How many bytes `a` and `b` share from their beginnings.
 fn common_len(a: &[u8], b: &[u8]) -> usize
-    ensures { result ≡ shared a.now b.now }
+    ensures count { result ≡ shared a.now b.now }
+    ensures within { result ≤ length b.now }
 {
-    for (i, x) in a.iter().enumerate() {
-        if i >= b.len() || b[i] != *x {
-            return i;
-        }
-    }
-    a.len()
+    a.iter().zip(b).take_while(|(x, y)| x == y).count()
 }
 
 pub(crate) fn literal<'a>(text: &'a [u8], due: &[u8]) -> Result<&'a [u8], usize>
     ensures { Strips due.now text.now result }
 {
+    // One pass over what is due says how far it goes; `strip_prefix` would need another where it fails.
     let n = common_len(due, text);
     if n < due.len() {
         Err(text.len() - n)
@@ -31,33 +31,32 @@ pub(crate) fn literal<'a>(text: &'a [u8], due: &[u8]) -> Result<&'a [u8], usize>
 fn extended(value: u32, count: usize, byte: u8, limit: u32) -> Option<u32>
     ensures { MatchOption result (Extends value count byte limit → ⊥) (λ v. Extends value count byte limit × (v ≡ value * 10 + (byte - 48))) }
 {
-    if byte < b'0' || byte > b'9' || (value == 0 && count > 0) {
+    if !byte.is_ascii_digit() || (value == 0 && count > 0) {
         return None;
     }
-    let next = u64::from(value) * 10 + u64::from(byte - b'0');
-    if next <= u64::from(limit) {
-        Some(next as u32)
-    } else {
-        None
-    }
+    value
+        .checked_mul(10)?
+        .checked_add(u32::from(byte - b'0'))
+        .filter(|next| *next <= limit)
 }
 
 // The longest number at the beginning of the text, and its length.
+// A `try_fold` would carry the two along in one more type, and say no more.
 fn digits(text: &[u8], limit: u32) -> (u32, usize)
     ensures { Longest text.now limit result.0 result.1 }
 {
     let mut value = 0;
     for (n, byte) in text.iter().enumerate() {
-        match extended(value, n, *byte, limit) {
-            Some(v) => value = v,
-            None => return (value, n),
-        }
+        let Some(longer) = extended(value, n, *byte, limit) else {
+            return (value, n);
+        };
+        value = longer;
     }
     (value, text.len())
 }
 
 // A number up to the limit, and then the text `after`.
-pub(crate) fn number<'a>(text: &'a [u8], limit: u32, after: &[u8]) -> Result<(u32, &'a [u8]), usize>
+pub(crate) fn number<'a>(text: &'a [u8], limit: u32, after: &[u8]) -> Read<'a, u32>
     requires { Parting after.now }
     ensures { Reads (λ v. v ≤ limit) (λ v. decimal v ++ after.now) text.now result }
 {
@@ -70,14 +69,11 @@ pub(crate) fn number<'a>(text: &'a [u8], limit: u32, after: &[u8]) -> Result<(u3
 }
 
 // A number or `-`, and then the text `after`.
-pub(crate) fn optional_number<'a>(
-    text: &'a [u8],
-    after: &[u8],
-) -> Result<(Option<u32>, &'a [u8]), usize>
+pub(crate) fn optional_number<'a>(text: &'a [u8], after: &[u8]) -> Read<'a, Option<u32>>
     requires { Parting after.now }
     ensures { Reads Optional (λ o. optional o ++ after.now) text.now result }
 {
-    if let [b'-', rest @ ..] = text {
+    if let Some(rest) = text.strip_prefix(b"-") {
         let rest = literal(rest, after)?;
         return Ok((None, rest));
     }
@@ -102,11 +98,8 @@ pub trait Word: Copy {
 }
 
 // The word of one of the values, and then the text `after`.
-pub(crate) fn one_of<'a, W: Word>(
-    text: &'a [u8],
-    all: &[W],
-    after: &[u8],
-) -> Result<(W, &'a [u8]), usize>
+// A `find_map` would forget how far the words go that are not there.
+pub(crate) fn one_of<'a, W: Word>(text: &'a [u8], all: &[W], after: &[u8]) -> Read<'a, W>
     requires { 0 < length all.now }
     ensures { Reads (Listed all.now) (λ w. W.Word.spelled w ++ after.now) text.now result }
 {

@@ -3,7 +3,7 @@ ghost use Rattle.std.specs.Prelude.{◌≡◌, ◌++◌};
 ghost use Rattle.reader.specs.Pieces.{Reads};
 ghost use Rattle.reader.specs.Format.{mode as spelled_mode, operator as spelled_operator, action as spelled_action};
 
-use crate::pieces::{Word, one_of};
+use crate::pieces::{Read, Word, one_of};
 use records::{Action, Mode, Operator};
 
 impl Word for Mode {
@@ -52,13 +52,13 @@ impl Word for Action {
     }
 }
 
-pub(crate) fn mode<'a>(text: &'a [u8], after: &[u8]) -> Result<(Mode, &'a [u8]), usize>
+pub(crate) fn mode<'a>(text: &'a [u8], after: &[u8]) -> Read<'a, Mode>
     ensures { Reads (λ _. Unit {0}) (λ m. spelled_mode m ++ after.now) text.now result }
 {
     one_of(text, &[Mode::Enforced, Mode::Dynamic], after)
 }
 
-pub(crate) fn operator<'a>(text: &'a [u8], after: &[u8]) -> Result<(Operator, &'a [u8]), usize>
+pub(crate) fn operator<'a>(text: &'a [u8], after: &[u8]) -> Read<'a, Operator>
     ensures { Reads (λ _. Unit {0}) (λ o. spelled_operator o ++ after.now) text.now result }
 {
     let all = [
@@ -78,7 +78,7 @@ pub(crate) fn operator<'a>(text: &'a [u8], after: &[u8]) -> Result<(Operator, &'
     one_of(text, &all, after)
 }
 
-pub(crate) fn action<'a>(text: &'a [u8], after: &[u8]) -> Result<(Action, &'a [u8]), usize>
+pub(crate) fn action<'a>(text: &'a [u8], after: &[u8]) -> Read<'a, Action>
     ensures { Reads (λ _. Unit {0}) (λ a. spelled_action a ++ after.now) text.now result }
 {
     one_of(

@@ -1,5 +1,6 @@
 // The records of a design as a text gives them, good or bad, and the fault of a line.
-// Records of each kind are numbered from 0; `None` stands where the text has `-`.
+// Records of each kind are numbered from 0; `None` stands where the text has `-`. What only some modes, operators or actions
+// have stands beside them as an option, and not within them: a record must hold what acceptance is to refuse.
 #![tactic(auto)]
 
 mod faults;
@@ -8,7 +9,7 @@ mod numbers;
 pub use faults::LineFault;
 
 // How many records of each kind there are, and how many cycles are to run.
-#[derive(Clone, Copy, PartialEq, Eq, Debug)]
+#[derive(Clone, Copy, PartialEq, Eq, Debug, Default)]
 pub struct Head {
     pub ports: u32,
     pub registers: u32,
@@ -18,19 +19,20 @@ pub struct Head {
     pub cycles: u32,
 }
 
-#[derive(Clone, Copy, PartialEq, Eq, Debug)]
+#[derive(Clone, Copy, PartialEq, Eq, Debug, Default)]
 pub struct Port {
     pub width: u32,
 }
 
 // An enforced register or state keeps its level; that of a dynamic one follows what is written to it.
-#[derive(Clone, Copy, PartialEq, Eq, Debug)]
+#[derive(Clone, Copy, PartialEq, Eq, Debug, Default)]
 pub enum Mode {
+    #[default]
     Enforced,
     Dynamic,
 }
 
-#[derive(Clone, Copy, PartialEq, Eq, Debug)]
+#[derive(Clone, Copy, PartialEq, Eq, Debug, Default)]
 pub struct Register {
     pub width: u32,
     pub cells: u32,
@@ -39,7 +41,7 @@ pub struct Register {
     pub floor: Option<u32>,
 }
 
-#[derive(Clone, Copy, PartialEq, Eq, Debug)]
+#[derive(Clone, Copy, PartialEq, Eq, Debug, Default)]
 pub struct State {
     pub parent: Option<u32>,
     pub mode: Mode,
@@ -48,8 +50,9 @@ pub struct State {
     pub first: u32,
 }
 
-#[derive(Clone, Copy, PartialEq, Eq, Debug)]
+#[derive(Clone, Copy, PartialEq, Eq, Debug, Default)]
 pub enum Operator {
+    #[default]
     Constant,
     Input,
     Read,
@@ -66,15 +69,16 @@ pub enum Operator {
 
 // The number, port or register `a` for the first three operators, with `b` the index of a register's cell;
 // the operands `a` and `b` for the others.
-#[derive(Clone, Copy, PartialEq, Eq, Debug)]
+#[derive(Clone, Copy, PartialEq, Eq, Debug, Default)]
 pub struct Expression {
     pub op: Operator,
     pub a: u32,
     pub b: Option<u32>,
 }
 
-#[derive(Clone, Copy, PartialEq, Eq, Debug)]
+#[derive(Clone, Copy, PartialEq, Eq, Debug, Default)]
 pub enum Action {
+    #[default]
     Set,
     Tag,
     If,
@@ -84,7 +88,7 @@ pub enum Action {
 
 // Set: register x, index i, expression e. Tag: register x, index i, level e. If: x and i the first commands of the
 // branches, condition e. Goto: state x. `next` follows the command, `alt` runs instead where its check fails.
-#[derive(Clone, Copy, PartialEq, Eq, Debug)]
+#[derive(Clone, Copy, PartialEq, Eq, Debug, Default)]
 pub struct Command {
     pub action: Action,
     pub x: Option<u32>,
@@ -94,30 +98,22 @@ pub struct Command {
     pub alt: Option<u32>,
 }
 
-#[derive(Clone, Copy, PartialEq, Eq, Debug)]
-pub struct Cell {
-    pub value: u32,
-    pub level: u32,
-}
-
-#[derive(Clone, Copy, PartialEq, Eq, Debug)]
-pub struct Input {
-    pub value: u32,
-    pub level: u32,
-}
-
 // What something holds, and the level of what it holds.
-#[derive(Clone, Copy, PartialEq, Eq, Debug)]
+#[derive(Clone, Copy, PartialEq, Eq, Debug, Default)]
 pub struct Labeled<T> {
     pub value: T,
     pub level: u32,
 }
 
+pub type Cell = Labeled<u32>;
+
+pub type Input = Labeled<u32>;
+
 // The current child of a state, none for a leaf.
 pub type Pointer = Labeled<Option<u32>>;
 
 // A check that failed in a cycle: the command, and the level of what the report tells.
-#[derive(Clone, Copy, PartialEq, Eq, Debug)]
+#[derive(Clone, Copy, PartialEq, Eq, Debug, Default)]
 pub struct Report {
     pub command: u32,
     pub level: u32,

@@ -5,7 +5,7 @@ ghost use Rattle.records.specs.Faults.{refusal};
 use crate::LineFault;
 
 impl LineFault {
-    // The number of the refusal.
+    // The number of the refusal. A method, since a conversion into a number would not say which.
     pub fn number(&self) -> u32
         ensures { numbered (refusal self.now) ≡ Some result }
     {

@@ -1,2 +1,2 @@
 pub mod Ranking
-pub mod Sweeps
+pub mod Agreeing

@@ -4,6 +4,7 @@ use Rattle.std.proofs.Common.{◌≡◌, ℕ, zero, suc, ◌+◌, ◌-◌, ◌<�
 use mathlib.Core.Path.{fun_ext}
 use Rattle.std.proofs.lemmas.Bool.{cases_eq, cond-true, cond-false, ltb-true, lt-ltb, le-ltb, le-leb, and_from, cases_lt}
 use Rattle.std.proofs.lemmas.Bool.Decides.{nat_tests}
+use Rattle.search.proofs.Filling.{Holds, holds_more, holds_none, Filled, filled_none, filled_more, filled_all}
 use Rattle.shape.specs.Rank.{lower, ranked_by, ranked}
 
 module _ {I T : Type 0} (rank : I → ℕ) (none : T) (node : (I → T) → I → T) where
@@ -25,56 +26,27 @@ module _ {I T : Type 0} (rank : I → ℕ) (none : T) (node : (I → T) → I �
   unfolding ranked ranked_by
   ranked_is i = ap (λ f. node f i) (lower_same (ranked_by rank none node (rank i)) (ranked rank none node) i (λ j l. same_fuel (rank i) (suc (rank j)) j l (omega arith)))
 
--- A table that holds what is worked out of the records that pass, and `none` elsewhere.
-module _ {T : Type 0} (none : T) where
-  abbrev pub Holds : (ℕ → Bool) → (ℕ → T) → List T → Type 0
-  Holds p f xs = (j : ℕ) → get_or xs j none ≡ cond (p j) (f j) none
-
-  -- one record more
-  pub holds_more : (p q : ℕ → Bool) (f : ℕ → T) (xs : List T) (k : ℕ) (v : T) → k < length xs → v ≡ f k → q k ≡ true → ((j : ℕ) → (j ≡ k → ⊥) → q j ≡ p j) → Holds p f xs → Holds q f (set xs k v)
-  holds_more p q f xs k v l e here other h j = ⊎_elim same apart (cases_eq j k)
-    where
-      same : j ≡ k → get_or (set xs k v) j none ≡ cond (q j) (f j) none
-      same r = rw r (get_or-set_same xs k v none l ∙ e ∙ sym (cond-true (q k) (f k) none here))
-
-      apart : (j ≡ k → ⊥) → get_or (set xs k v) j none ≡ cond (q j) (f j) none
-      apart ne = get_or-set_other xs k j v none ne ∙ h j ∙ ap (λ t. cond t (f j) none) (sym (other j ne))
-
-pub getD_none : {T : Type 0} (none : T) (n j : ℕ) → get_or (replicate n none) j none ≡ none
-getD_none none zero j = refl
-getD_none none (suc n) zero = refl
-getD_none none (suc n) (suc j) = getD_none none n j
-
 -- a table filled from the first record on
 module _ {T : Type 0} (none : T) (node : (ℕ → T) → ℕ → T) where
   abbrev by_number : ℕ → T
   by_number = ranked (λ j. j) none node
 
   abbrev pub Risen : ℕ → List T → Type 0
-  Risen k xs = Holds none (λ j. ltb j k) by_number xs
+  Risen k xs = Filled none by_number k xs
 
   pub risen_none : (n : ℕ) → Risen 0 (replicate n none)
-  risen_none n j = getD_none none n j ∙ sym (cond-false (ltb j 0) (by_number j) none (le-ltb j 0 (omega arith)))
+  risen_none n = filled_none none by_number n
 
   pub risen_more : (xs : List T) (k : ℕ) (v : T) → k < length xs → v ≡ node (λ j. get_or xs j none) k → Risen k xs → Risen (k + 1) (set xs k v)
-  risen_more xs k v l e h =
-      let worked : v ≡ by_number k = e ∙ ap (λ f. node f k) (fun_ext h) ∙ sym (ranked_is (λ j. j) none node k) in
-      holds_more none (λ j. ltb j k) (λ j. ltb j (k + 1)) by_number xs k v l worked (lt-ltb k (k + 1) (omega arith)) apart h
-    where
-      apart : (j : ℕ) → (j ≡ k → ⊥) → ltb j (k + 1) ≡ ltb j k
-      apart j ne = grind (arith, nat_tests)
+  risen_more xs k v l e h = filled_more none by_number xs k v l (e ∙ ap (λ f. node f k) (fun_ext h) ∙ sym (ranked_is (λ j. j) none node k)) h
 
   pub risen_all : (n k : ℕ) (xs : List T) → n ≤ k → k ≤ n → Risen k xs → Risen n xs
-  risen_all n k xs l m h = let e : k ≡ n = omega arith in subst (λ i. Risen i xs) e h
+  risen_all n k xs l m h = filled_all none by_number n k xs l m h
 
 -- numbers below a bound, and one more below a larger one
 pub bound_more : (xs : List ℕ) (k v a b : ℕ) → k < length xs → v ≤ b → a ≤ b → ((j : ℕ) → get_or xs j 0 ≤ a) → (j : ℕ) → get_or (set xs k v) j 0 ≤ b
 bound_more xs k v a b l p q h j =
     ⊎_elim (λ e. subst (λ i. get_or (set xs k v) i 0 ≤ b) (sym e) (rw (get_or-set_same xs k v 0 l) p)) (λ ne. rw (get_or-set_other xs k j v 0 ne) (omega (arith, h j))) (cases_eq j k)
-
--- what a whole table holds of a record within it
-pub held : {T : Type 0} (none : T) (n : ℕ) (f : ℕ → T) (xs : List T) → Holds none (λ j. ltb j n) f xs → (j : ℕ) → j < n → get_or xs j none ≡ f j
-held none n f xs h j l = h j ∙ cond-true (ltb j n) (f j) none (lt-ltb j n l)
 
 -- a table of n records filled from the last one down, where later records rank lower
 abbrev from_last : ℕ → ℕ → ℕ
@@ -114,7 +86,7 @@ module _ {T : Type 0} (none : T) (n : ℕ) (node : (ℕ → T) → ℕ → T) wh
   Sunk k xs = Holds none (λ j. leb k j && ltb j n) by_last xs
 
   pub sunk_none : (m : ℕ) → Sunk n (replicate m none)
-  sunk_none m j = getD_none none m j ∙ sym (cond-false (leb n j && ltb j n) (by_last j) none apart)
+  sunk_none m j = holds_none none m j ∙ sym (cond-false (leb n j && ltb j n) (by_last j) none apart)
     where
       apart : (leb n j && ltb j n) ≡ false
       apart = grind (arith, nat_tests)

@@ -1,5 +1,5 @@
 -- What the refusal of a design says: its number and the place. Assumes nothing.
-use Rattle.std.specs.Prelude.{ℕ, [], ◌∷◌, Some, None, Option}
+use Rattle.std.specs.Prelude.{ℕ, [], ◌∷◌, Some, None, Option, Result, Ok, Err}
 use Rattle.lattice.specs.Faults.{Refusal, refuse, refusal as lattice_refusal}
 use Rattle.records.specs.Faults.{refusal as line_refusal}
 use Rattle.rules.specs.declared.faults.DesignFault.{DesignFault}
@@ -33,6 +33,11 @@ breach b = refuse (rule_number b.rule) (kind_number b.kind ∷ b.«record» ∷ 
 abbrev pub breach_if : Option Breach → Option Refusal
 breach_if None = None
 breach_if (Some b) = breach b
+
+-- what a test of the rules answers: nothing, or the breach
+abbrev pub broke : {X : Type 0} → Result X Breach → Option Refusal
+broke (Ok x) = None
+broke (Err b) = breach b
 
 -- the fault of a line or a lattice says what it says by itself; want of memory has no number
 abbrev pub refusal : DesignFault → Option Refusal

@@ -1,13 +1,14 @@
 // Rule 8: how deep states and expressions are.
 ghost use Rattle.std.specs.Prelude.{◌≡◌, ◌≤◌, nat_lt, slice_index};
-ghost use Rattle.rules.specs.Faults.{breach_if};
+ghost use Rattle.rules.specs.Faults.{broke};
 ghost use Rattle.rules.specs.Rules.{shallow};
 ghost use Rattle.shape.specs.Shape.{depth_node, height_node, operand};
 ghost use Rattle.shape.specs.View.{view};
 
 use crate::faults::{Breach, Kind, Rule};
-use crate::keep::keep;
 use crate::ranks::{MOST_RECORDS, Node, work_out};
+use crate::sizes::Counted;
+use crate::sweeps::sweep;
 use records::Operator;
 use search::Test;
 use shape::{Tables, record_at};
@@ -28,10 +29,10 @@ impl Node for Depth<'_> {
     ghost base = { λ _. 0 };
 
     fn value(&self, done: &[u32; MOST_RECORDS], s: u32) -> u32 {
-        match self.tables.state(s).parent {
-            Some(parent) => 1 + record_at(done, parent, 0),
-            None => 0,
-        }
+        self.tables
+            .state(s)
+            .parent
+            .map_or(0, |parent| 1 + record_at(done, parent, 0))
     }
 }
 
@@ -39,10 +40,7 @@ impl Node for Depth<'_> {
 fn operand_height(done: &[u32; MOST_RECORDS], field: Option<u32>) -> u32
     ensures { result ≡ operand (λ j. slice_index done.now j) field }
 {
-    match field {
-        Some(k) => record_at(done, k, 0),
-        None => 0,
-    }
+    field.map_or(0, |k| record_at(done, k, 0))
 }
 
 // How deep each expression is.
@@ -59,8 +57,7 @@ impl Node for Height<'_> {
     fn value(&self, done: &[u32; MOST_RECORDS], k: u32) -> u32 {
         let x = self.tables.expression(k);
         match x.op {
-            Operator::Constant => 1,
-            Operator::Input => 1,
+            Operator::Constant | Operator::Input => 1,
             Operator::Read => 1 + operand_height(done, x.b),
             _ => 1 + record_at(done, x.a, 0).max(operand_height(done, x.b)),
         }
@@ -83,10 +80,10 @@ impl Test for Above<'_> {
     }
 }
 
-pub(crate) fn check_depth(tables: Tables<'_>) -> Option<Breach>
-    requires { (tables.head.states ≤ 256) × (tables.head.expressions ≤ 256) }
-    ensures { breach_if result ≡ shallow (view tables.entry) }
+pub(crate) fn check_depth(counted: Counted<'_>) -> Result<(), Breach>
+    ensures { broke result ≡ shallow (view counted.entry.tables) }
 {
+    let tables = counted.tables;
     let head = tables.head;
     let depths = work_out(&Depth { tables }, head.states);
     let heights = work_out(&Height { tables }, head.expressions);
@@ -98,9 +95,8 @@ pub(crate) fn check_depth(tables: Tables<'_>) -> Option<Breach>
         numbers: &heights,
         most: DEEPEST_EXPRESSION,
     };
-    let found = keep(None, Rule::Depth, Kind::State, head.states, &states);
-    keep(
-        found,
+    sweep(Rule::Depth, Kind::State, head.states, &states)?;
+    sweep(
         Rule::Depth,
         Kind::Expression,
         head.expressions,

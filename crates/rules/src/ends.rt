@@ -1,13 +1,14 @@
 // Rule 7: which chains end.
 ghost use Rattle.std.specs.Prelude.{◌≡◌, ℕ, ◌≤◌, false, not, get_or, slice_index_or};
 ghost use Rattle.shape.specs.Shape.{leaves, branch_ends, is_last, chain_ends, ends_of, state_at, command_at};
-ghost use Rattle.rules.specs.Faults.{breach_if};
+ghost use Rattle.rules.specs.Faults.{broke};
 ghost use Rattle.rules.specs.Rules.{command_ends, ended};
 ghost use Rattle.shape.specs.View.{view};
 
 use crate::faults::{Breach, Kind, Rule};
-use crate::keep::keep;
 use crate::ranks::MOST_RECORDS;
+use crate::sizes::Counted;
+use crate::sweeps::sweep;
 use records::{Action, Command};
 use search::Test;
 use shape::{Tables, is_if, record_at};
@@ -18,20 +19,13 @@ type Ends = [bool; MOST_RECORDS];
 fn is_leaving(action: Action) -> bool
     ensures { result ≡ leaves action }
 {
-    match action {
-        Action::Goto => true,
-        Action::Fall => true,
-        _ => false,
-    }
+    matches!(action, Action::Goto | Action::Fall)
 }
 
 fn is_branch_ending(ends: &Ends, field: Option<u32>) -> bool
     ensures { result ≡ branch_ends (λ j. get_or ends.now j false) field }
 {
-    match field {
-        Some(k) => record_at(ends, k, false),
-        None => false,
-    }
+    field.is_some_and(|k| record_at(ends, k, false))
 }
 
 // The command must be the last of its chain.
@@ -54,10 +48,10 @@ fn is_chain_ending(ends: &Ends, command: Command) -> bool
 }
 
 // Whether the chain from each command on ends.
-fn work_out_ends(tables: Tables<'_>) -> Ends
-    requires { tables.head.commands ≤ 256 }
-    ensures { (k : ℕ) → slice_index_or result k false ≡ ends_of (view tables.entry) k }
+fn work_out_ends(counted: Counted<'_>) -> Ends
+    ensures { (k : ℕ) → slice_index_or result k false ≡ ends_of (view counted.entry.tables) k }
 {
+    let tables = counted.tables;
     let mut ends = [false; MOST_RECORDS];
     for k in (0..tables.head.commands).rev() {
         ends[k as usize] = is_chain_ending(&ends, tables.command(k));
@@ -105,29 +99,20 @@ fn is_command_ending(ends: &Ends, command: Command) -> bool
     last & (!is_if(command.action) | even) & (command.alt.is_none() | alike)
 }
 
-pub(crate) fn check_ends(tables: Tables<'_>) -> Option<Breach>
-    requires { tables.head.commands ≤ 256 }
-    ensures { breach_if result ≡ ended (view tables.entry) }
+pub(crate) fn check_ends(counted: Counted<'_>) -> Result<(), Breach>
+    ensures { broke result ≡ ended (view counted.entry.tables) }
 {
-    let ends = work_out_ends(tables);
-    let found = keep(
-        None,
-        Rule::Ends,
-        Kind::State,
-        tables.head.states,
-        &Endless {
-            tables,
-            ends: &ends,
-        },
-    );
-    keep(
-        found,
-        Rule::Ends,
-        Kind::Command,
-        tables.head.commands,
-        &MisEnded {
-            tables,
-            ends: &ends,
-        },
-    )
+    let tables = counted.tables;
+    let head = tables.head;
+    let ends = work_out_ends(counted);
+    let endless = Endless {
+        tables,
+        ends: &ends,
+    };
+    sweep(Rule::Ends, Kind::State, head.states, &endless)?;
+    let mis_ended = MisEnded {
+        tables,
+        ends: &ends,
+    };
+    sweep(Rule::Ends, Kind::Command, head.commands, &mis_ended)
 }

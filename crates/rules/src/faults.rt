@@ -7,7 +7,7 @@ use std::alloc::{AllocError, AllocFailed};
 use std::fmt;
 
 // What a place is in: a record of this kind, a cell of the memory, or an input.
-#[derive(Clone, Copy)]
+#[derive(Clone, Copy, PartialEq, Eq, Debug)]
 pub enum Kind {
     Port,
     Register,
@@ -19,7 +19,7 @@ pub enum Kind {
 }
 
 // The rules of an accepted design, in the order in which they are tested.
-#[derive(Clone, Copy)]
+#[derive(Clone, Copy, PartialEq, Eq, Debug)]
 pub enum Rule {
     Sizes,
     Links,
@@ -30,7 +30,7 @@ pub enum Rule {
 }
 
 // The first rule that is broken, and the lowest record that breaks it; for a count out of range, the count.
-#[derive(Clone, Copy)]
+#[derive(Clone, Copy, PartialEq, Eq, Debug)]
 pub struct Breach {
     pub rule: Rule,
     pub kind: Kind,
@@ -38,7 +38,7 @@ pub struct Breach {
 }
 
 // Why a design was refused. The fault of a line or a lattice is carried whole.
-#[derive(Clone, Copy)]
+#[derive(Clone, Copy, PartialEq, Eq, Debug)]
 pub enum DesignFault {
     Line(LineFault),
     Lattice(LatticeFault),

@@ -1,12 +1,12 @@
 // Rule 5: the levels that records name.
 ghost use Rattle.std.specs.Prelude.{◌≡◌};
-ghost use Rattle.rules.specs.Faults.{breach_if};
+ghost use Rattle.rules.specs.Faults.{broke};
 ghost use Rattle.shape.specs.Shape.{register_at, command_at, is_tag};
 ghost use Rattle.rules.specs.Rules.{is_level, bad_floor, bad_state_level, bad_tag_level, levels};
 ghost use Rattle.shape.specs.View.{view};
 
 use crate::faults::{Breach, Kind, Rule};
-use crate::keep::keep;
+use crate::sweeps::sweep;
 use lattice::Lattice;
 use records::Action;
 use search::Test;
@@ -15,19 +15,13 @@ use shape::{Tables, is_enforced, is_number};
 fn names_level<L: Lattice>(lattice: &L, field: Option<u32>) -> bool
     ensures { result ≡ is_level (L.Lattice.model lattice.now).joins field }
 {
-    match field {
-        Some(level) => lattice.is_level(level),
-        None => false,
-    }
+    field.is_some_and(|level| lattice.is_level(level))
 }
 
 fn is_tag(action: Action) -> bool
     ensures { result ≡ is_tag action }
 {
-    match action {
-        Action::Tag => true,
-        _ => false,
-    }
+    action == Action::Tag
 }
 
 #[derive(Drop)]
@@ -80,29 +74,14 @@ impl<L: Lattice> Test for BadTagLevel<'_, '_, L> {
     }
 }
 
-pub(crate) fn check_levels<L: Lattice>(lattice: &L, tables: Tables<'_>) -> Option<Breach>
-    ensures { breach_if result ≡ levels (L.Lattice.model lattice.now).joins (view tables.entry) }
+pub(crate) fn check_levels<L: Lattice>(lattice: &L, tables: Tables<'_>) -> Result<(), Breach>
+    ensures { broke result ≡ levels (L.Lattice.model lattice.now).joins (view tables.entry) }
 {
     let head = tables.head;
-    let found = keep(
-        None,
-        Rule::Levels,
-        Kind::Register,
-        head.registers,
-        &BadFloor { lattice, tables },
-    );
-    let found = keep(
-        found,
-        Rule::Levels,
-        Kind::State,
-        head.states,
-        &BadStateLevel { lattice, tables },
-    );
-    keep(
-        found,
-        Rule::Levels,
-        Kind::Command,
-        head.commands,
-        &BadTagLevel { lattice, tables },
-    )
+    let floors = BadFloor { lattice, tables };
+    sweep(Rule::Levels, Kind::Register, head.registers, &floors)?;
+    let states = BadStateLevel { lattice, tables };
+    sweep(Rule::Levels, Kind::State, head.states, &states)?;
+    let tags = BadTagLevel { lattice, tables };
+    sweep(Rule::Levels, Kind::Command, head.commands, &tags)
 }

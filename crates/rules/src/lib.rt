@@ -4,16 +4,17 @@
 mod depth;
 mod ends;
 mod faults;
-pub mod keep;
 mod levels;
 mod links;
 mod numbers;
 mod places;
 mod ranks;
 mod sizes;
+mod sweeps;
 mod verdict;
 
 pub use faults::{Breach, DesignFault, Kind, Rule};
 pub use places::{ChildOf, owners};
 pub use ranks::MOST_RECORDS;
-pub use verdict::first_breach;
+pub use sweeps::sweep;
+pub use verdict::check;

@@ -1,34 +1,28 @@
 // Rule 4: what the records name.
 ghost use Rattle.std.specs.Prelude.{◌≡◌, not, if◌then◌else◌, Some, ◌==◌};
-ghost use Rattle.rules.specs.Faults.{breach_if};
+ghost use Rattle.rules.specs.Faults.{broke};
 ghost use Rattle.shape.specs.Shape.{given, register_at, state_at, command_at};
 ghost use Rattle.rules.specs.Rules.{names, later, indexes, floor_placed, state_linked, expression_linked, cell_named, fields_linked, once, command_names, times_named, command_linked, linked};
 ghost use Rattle.shape.specs.View.{view};
 
 use crate::faults::{Breach, Kind, Rule};
-use crate::keep::keep;
+use crate::sweeps::sweep;
 use records::{Action, Command, Expression, Operator, Register};
 use search::{Amount, Test, sum_below};
-use shape::{Tables, is_enforced, is_number};
+use shape::{Tables, is_enforced, is_if, is_number};
 
 // A field that must name a record below n.
 fn is_named(n: u32, field: Option<u32>) -> bool
     ensures { result ≡ names n field }
 {
-    match field {
-        Some(m) => m < n,
-        None => false,
-    }
+    field.is_some_and(|m| m < n)
 }
 
 // A field that may name a command after k.
 fn is_later(k: u32, n: u32, field: Option<u32>) -> bool
     ensures { result ≡ later k n field }
 {
-    match field {
-        Some(m) => (k < m) & (m < n),
-        None => true,
-    }
+    field.is_none_or(|m| (k < m) & (m < n))
 }
 
 // Given exactly where it must be.
@@ -83,11 +77,10 @@ fn is_expression_linked(tables: &Tables<'_>, k: u32) -> bool
 fn is_cell_named(tables: &Tables<'_>, command: Command) -> bool
     ensures { result ≡ cell_named (view tables.now) command }
 {
-    match command.x {
-        Some(x) => (x < tables.head.registers)
-            & is_indexed(tables, tables.head.expressions, x, command.i),
-        None => false,
-    }
+    let Some(x) = command.x else {
+        return false;
+    };
+    (x < tables.head.registers) & is_indexed(tables, tables.head.expressions, x, command.i)
 }
 
 fn are_fields_linked(tables: &Tables<'_>, k: u32) -> bool
@@ -118,15 +111,16 @@ fn are_fields_linked(tables: &Tables<'_>, k: u32) -> bool
 fn times(field: Option<u32>, k: u32) -> u32
     ensures { result ≡ once field k }
 {
-    if is_number(field, k) { 1 } else { 0 }
+    u32::from(is_number(field, k))
 }
 
 fn times_in(command: Command, k: u32) -> u32
     ensures { result ≡ command_names command k }
 {
-    let branches = match command.action {
-        Action::If => times(command.x, k) + times(command.i, k),
-        _ => 0,
+    let branches = if is_if(command.action) {
+        times(command.x, k) + times(command.i, k)
+    } else {
+        0
     };
     times(command.next, k) + times(command.alt, k) + branches
 }
@@ -225,36 +219,21 @@ impl Test for UnlinkedCommand<'_> {
     }
 }
 
-pub(crate) fn check_links(tables: Tables<'_>) -> Option<Breach>
-    ensures { breach_if result ≡ linked (view tables.entry) }
+pub(crate) fn check_links(tables: Tables<'_>) -> Result<(), Breach>
+    ensures { broke result ≡ linked (view tables.entry) }
 {
     let head = tables.head;
-    let found = keep(
-        None,
-        Rule::Links,
-        Kind::Register,
-        head.registers,
-        &UnplacedFloor { tables },
-    );
-    let found = keep(
-        found,
-        Rule::Links,
-        Kind::State,
-        head.states,
-        &UnlinkedState { tables },
-    );
-    let found = keep(
-        found,
+    let floors = UnplacedFloor { tables };
+    sweep(Rule::Links, Kind::Register, head.registers, &floors)?;
+    let states = UnlinkedState { tables };
+    sweep(Rule::Links, Kind::State, head.states, &states)?;
+    let expressions = UnlinkedExpression { tables };
+    sweep(
         Rule::Links,
         Kind::Expression,
         head.expressions,
-        &UnlinkedExpression { tables },
-    );
-    keep(
-        found,
-        Rule::Links,
-        Kind::Command,
-        head.commands,
-        &UnlinkedCommand { tables },
-    )
+        &expressions,
+    )?;
+    let commands = UnlinkedCommand { tables };
+    sweep(Rule::Links, Kind::Command, head.commands, &commands)
 }

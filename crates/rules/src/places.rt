@@ -1,13 +1,14 @@
 // Rule 6: where commands stand.
 ghost use Rattle.std.specs.Prelude.{◌≡◌, ℕ, ◌≤◌, min, not, if◌then◌else◌, nat_lt, slice_index};
 ghost use Rattle.shape.specs.Shape.{is_first, links_to, links, alike, is_child, owner_node, owner_of};
-ghost use Rattle.rules.specs.Faults.{breach_if};
+ghost use Rattle.rules.specs.Faults.{broke};
 ghost use Rattle.rules.specs.Rules.{enforced_register, enforced_state, goto_placed, action_placed, has_check, command_placed, placed};
 ghost use Rattle.shape.specs.View.{view};
 
 use crate::faults::{Breach, Kind, Rule};
-use crate::keep::keep;
 use crate::ranks::{MOST_RECORDS, Node, work_out};
+use crate::sizes::Counted;
+use crate::sweeps::sweep;
 use records::{Action, Command};
 use search::{Test, first_below};
 use shape::{Tables, is_enforced, is_if, is_number, record_at};
@@ -63,11 +64,10 @@ impl Node for Owner<'_> {
 
     fn value(&self, done: &[u32; MOST_RECORDS], k: u32) -> u32 {
         let tables = self.tables;
-        let state = first_below(&IsFirst { tables, k }, tables.head.states);
-        if state < tables.head.states {
+        if let Some(state) = first_below(&IsFirst { tables, k }, tables.head.states) {
             return state;
         }
-        let named_by = first_below(&LinksTo { tables, k }, k);
+        let named_by = first_below(&LinksTo { tables, k }, k).unwrap_or(k);
         record_at(done, named_by, 0)
     }
 }
@@ -84,10 +84,7 @@ pub fn owners(tables: Tables<'_>) -> [u32; MOST_RECORDS]
 fn are_alike(a: Option<u32>, b: Option<u32>) -> bool
     ensures { result ≡ alike a b }
 {
-    match a {
-        Some(n) => is_number(b, n),
-        None => b.is_none(),
-    }
+    a == b
 }
 
 // The children of a state.
@@ -129,13 +126,12 @@ fn is_action_placed(tables: &Tables<'_>, s: u32, command: Command) -> bool
     ensures { result ≡ action_placed (view tables.now) s command command.action }
 {
     match command.action {
-        Action::Set => true,
+        Action::Set | Action::If => true,
         Action::Tag => is_register_enforced(tables, command.x),
-        Action::If => true,
         Action::Goto => is_goto_placed(tables, s, command.x),
         Action::Fall => {
             let lent = *tables;
-            first_below(&ChildOf { tables: lent, s }, tables.head.states) < tables.head.states
+            first_below(&ChildOf { tables: lent, s }, tables.head.states).is_some()
         }
     }
 }
@@ -146,10 +142,9 @@ fn has_check(tables: &Tables<'_>, command: Command) -> bool
 {
     match command.action {
         Action::Set => is_register_enforced(tables, command.x),
-        Action::Tag => true,
+        Action::Tag | Action::Fall => true,
         Action::If => false,
         Action::Goto => is_state_enforced(tables, command.x),
-        Action::Fall => true,
     }
 }
 
@@ -171,19 +166,19 @@ impl Test for Misplaced<'_, '_> {
     }
 }
 
-pub(crate) fn check_places(tables: Tables<'_>) -> Option<Breach>
-    requires { tables.head.commands ≤ 256 }
-    ensures { breach_if result ≡ placed (view tables.entry) }
+pub(crate) fn check_places(counted: Counted<'_>) -> Result<(), Breach>
+    ensures { broke result ≡ placed (view counted.entry.tables) }
 {
+    let tables = counted.tables;
     let owners = work_out(&Owner { tables }, tables.head.commands);
-    keep(
-        None,
+    let misplaced = Misplaced {
+        tables,
+        owners: &owners,
+    };
+    sweep(
         Rule::Places,
         Kind::Command,
         tables.head.commands,
-        &Misplaced {
-            tables,
-            owners: &owners,
-        },
+        &misplaced,
     )
 }

@@ -2,9 +2,11 @@
 ghost use Rattle.std.specs.Prelude.{◌≡◌, ℕ, ◌+◌, ◌<◌, ◌≤◌, if◌then◌else◌, nat_lt, slice_index};
 ghost use Rattle.shape.specs.Rank.{ranked};
 
-// No table of a design is longer.
+// No table of a design is longer. What is worked out of one is an array of this length, since the rules take no memory from
+// a heap, and so cannot lack any.
 pub const MOST_RECORDS: usize = 256;
 
+// What a record's number is made of. A trait and no closure, so that its meaning is stated and proved once.
 pub(crate) trait Node {
     ghost node: { Self → (ℕ → ℕ) → ℕ → ℕ };
 
@@ -18,7 +20,8 @@ pub(crate) trait Node {
         ensures bound { result ≤ base self.now + (k + 1) };
 }
 
-// The numbers of the records below `count`, and 0 from there on.
+// The numbers of the records below `count`, and 0 from there on. A loop, since each is worked out of the table so far; that
+// of `work_out_ends` goes the other way and holds truths, and one for both would say more of each than its three lines.
 pub(crate) fn work_out<N: Node>(nodes: &N, count: u32) -> [u32; MOST_RECORDS]
     requires { count ≤ 256 }
     ensures { (k : ℕ) → slice_index result k ≡ (if nat_lt k count then ranked (λ j. j) 0 (N.Node.node nodes.now) k else 0) }

@@ -1,12 +1,12 @@
 // Rule 3: sizes.
-ghost use Rattle.std.specs.Prelude.{◌≡◌, ◌+◌};
-ghost use Rattle.rules.specs.Faults.{breach_if, kind_number};
-ghost use Rattle.rules.specs.Rules.{outside, bad_size, bad_port, bad_register, cells_below, count_range, counts, sizes, ◌⊳◌};
+ghost use Rattle.std.specs.Prelude.{◌≡◌, ◌+◌, ◌≤◌, IfOk};
+ghost use Rattle.rules.specs.Faults.{broke, kind_number};
+ghost use Rattle.rules.specs.Rules.{outside, bad_size, bad_port, bad_register, cells_below, count_range, counts, sizes};
 ghost use Rattle.shape.specs.Shape.{register_at};
 ghost use Rattle.shape.specs.View.{view};
 
 use crate::faults::{Breach, Kind, Rule};
-use crate::keep::keep;
+use crate::sweeps::sweep;
 use records::{Head, Register};
 use search::{Amount, Test, sum_below};
 use shape::{Tables, is_enforced};
@@ -31,34 +31,27 @@ fn is_outside(low: u32, high: u32, n: u32) -> bool
     (n < low) | (high < n)
 }
 
-// A count after what was found before it.
-fn count_within(before: Option<Breach>, kind: Kind, low: u32, high: u32, n: u32) -> Option<Breach>
-    ensures { breach_if result ≡ (breach_if before ⊳ count_range (kind_number kind) low high n) }
+fn count_within(kind: Kind, low: u32, high: u32, n: u32) -> Result<(), Breach>
+    ensures { broke result ≡ count_range (kind_number kind) low high n }
 {
-    match before {
-        None if is_outside(low, high, n) => Some(Breach {
+    if is_outside(low, high, n) {
+        return Err(Breach {
             rule: Rule::Sizes,
             kind,
             record: n,
-        }),
-        found => found,
+        });
     }
+    Ok(())
 }
 
-fn counts_within(head: Head) -> Option<Breach>
-    ensures { breach_if result ≡ counts head }
+fn counts_within(head: Head) -> Result<(), Breach>
+    ensures { broke result ≡ counts head }
 {
-    let found = count_within(None, Kind::Port, 0, MOST_PORTS, head.ports);
-    let found = count_within(found, Kind::Register, 1, MOST_REGISTERS, head.registers);
-    let found = count_within(found, Kind::State, 2, MOST_STATES, head.states);
-    let found = count_within(
-        found,
-        Kind::Expression,
-        0,
-        MOST_EXPRESSIONS,
-        head.expressions,
-    );
-    count_within(found, Kind::Command, 1, MOST_COMMANDS, head.commands)
+    count_within(Kind::Port, 0, MOST_PORTS, head.ports)?;
+    count_within(Kind::Register, 1, MOST_REGISTERS, head.registers)?;
+    count_within(Kind::State, 2, MOST_STATES, head.states)?;
+    count_within(Kind::Expression, 0, MOST_EXPRESSIONS, head.expressions)?;
+    count_within(Kind::Command, 1, MOST_COMMANDS, head.commands)
 }
 
 #[derive(Drop)]
@@ -113,22 +106,23 @@ impl Test for BadRegister<'_> {
     }
 }
 
-pub(crate) fn check_sizes(tables: Tables<'_>) -> Option<Breach>
-    ensures { breach_if result ≡ sizes (view tables.entry) }
+// Tables whose counts are within their limits.
+#[derive(Clone, Copy)]
+pub(crate) struct Counted<'a> {
+    pub(crate) tables: Tables<'a>,
+    ghost states: { tables.head.states ≤ 256 },
+    ghost expressions: { tables.head.expressions ≤ 256 },
+    ghost commands: { tables.head.commands ≤ 256 },
+}
+
+pub(crate) fn check_sizes<'a>(tables: Tables<'a>) -> Result<Counted<'a>, Breach>
+    ensures sizes { broke result ≡ sizes (view tables.entry) }
+    ensures same { IfOk result (λ c. c.tables ≡ tables.entry) }
 {
-    let found = counts_within(tables.head);
-    let found = keep(
-        found,
-        Rule::Sizes,
-        Kind::Port,
-        tables.head.ports,
-        &BadPort { tables },
-    );
-    keep(
-        found,
-        Rule::Sizes,
-        Kind::Register,
-        tables.head.registers,
-        &BadRegister { tables },
-    )
+    let head = tables.head;
+    counts_within(head)?;
+    sweep(Rule::Sizes, Kind::Port, head.ports, &BadPort { tables })?;
+    let registers = BadRegister { tables };
+    sweep(Rule::Sizes, Kind::Register, head.registers, &registers)?;
+    Ok(Counted { tables })
 }

@@ -1,6 +1,6 @@
 // All rules, in their order.
 ghost use Rattle.std.specs.Prelude.{◌≡◌};
-ghost use Rattle.rules.specs.Faults.{breach_if};
+ghost use Rattle.rules.specs.Faults.{broke};
 ghost use Rattle.rules.specs.Rules.{broken};
 ghost use Rattle.shape.specs.View.{view};
 
@@ -14,29 +14,14 @@ use crate::sizes::check_sizes;
 use lattice::Lattice;
 use shape::Tables;
 
-// The first rule that is broken, and where.
-pub fn first_breach<L: Lattice>(lattice: &L, tables: Tables<'_>) -> Option<Breach>
-    ensures { breach_if result ≡ broken (L.Lattice.model lattice.now).joins (view tables.entry) }
+// Refuses the first rule that is broken, at its first place.
+pub fn check<L: Lattice>(lattice: &L, tables: Tables<'_>) -> Result<(), Breach>
+    ensures { broke result ≡ broken (L.Lattice.model lattice.now).joins (view tables.entry) }
 {
-    let sizes = check_sizes(tables);
-    if sizes.is_some() {
-        return sizes;
-    }
-    let links = check_links(tables);
-    if links.is_some() {
-        return links;
-    }
-    let levels = check_levels(lattice, tables);
-    if levels.is_some() {
-        return levels;
-    }
-    let places = check_places(tables);
-    if places.is_some() {
-        return places;
-    }
-    let ends = check_ends(tables);
-    if ends.is_some() {
-        return ends;
-    }
-    check_depth(tables)
+    let counted = check_sizes(tables)?;
+    check_links(tables)?;
+    check_levels(lattice, tables)?;
+    check_places(counted)?;
+    check_ends(counted)?;
+    check_depth(counted)
 }

@@ -1,88 +1,31 @@
 // Reads a design and the inputs of its cycles from standard input, and prints what each cycle leaves.
 #![tactic(auto)]
 
-use actions::NO_POINTER;
-use anyhow::anyhow;
+use console::{Stop, read_input, refuse};
 use design::{Accepted, accept};
 use draft::Draft;
 use reader::Reader;
-use records::{Head, LineFault, Pointer, Report};
+use records::{Head, Pointer, Report};
 use rules::DesignFault;
 use session::{SessionFault, Turn, Unwritten, start};
 use std::alloc::Global;
-use std::io;
-use std::io::{Read, Write};
+use std::io::Write;
 use table::Table;
 
-mod draft;
-
-// One byte more than a text may have shows that it is too long.
-const MOST_INPUT: u64 = 60_001;
-
-const NO_REPORT: Report = Report {
-    command: 0,
-    level: 0,
-};
-
-// Why a run stopped before its end.
-#[derive(Drop)]
-enum Stop {
-    Refused(SessionFault),
-    Unprinted(io::Error),
-}
-
-impl From<SessionFault> for Stop {
-    fn from(e: SessionFault) -> Stop {
-        Stop::Refused(e)
-    }
-}
-
-impl From<DesignFault> for Stop {
-    fn from(e: DesignFault) -> Stop {
-        Stop::Refused(SessionFault::Design(e))
-    }
-}
-
-impl From<LineFault> for Stop {
-    fn from(e: LineFault) -> Stop {
-        Stop::Refused(SessionFault::Design(DesignFault::Line(e)))
-    }
-}
-
-impl From<io::Error> for Stop {
-    fn from(e: io::Error) -> Stop {
-        Stop::Unprinted(e)
-    }
-}
-
-fn read_input(rt: &HostRuntime) -> io::Result<Vec<u8>> {
-    let mut text = Vec::new(rt.alloc());
-    rt.stdin().take(MOST_INPUT).read_to_end(&mut text)?;
-    Ok(text)
-}
-
-// A refusal is the last line of the output; standard error says where.
-fn refuse(rt: &HostRuntime, fault: SessionFault) -> anyhow::Result<()> {
-    if let Some(number) = fault.number() {
-        println!(rt; "refused={number}")?;
-    }
-    eprintln!(rt; "{fault}")?;
-    Err(anyhow!("refused"))
-}
-
-// The memory that cycles are lent beside the cells.
+// The memory that cycles are lent beside the cells, and the text of what they leave.
 #[derive(Drop)]
 struct Lent {
     pointers: Vec<Pointer>,
     reports: Vec<Report>,
+    text: String,
 }
 
 fn lend(heap: Global, head: Head) -> Result<Lent, DesignFault> {
-    let mut pointers = Vec::new(heap);
-    pointers.resize(head.states as usize, NO_POINTER)?;
-    let mut reports = Vec::new(heap);
-    reports.resize(head.commands as usize, NO_REPORT)?;
-    Ok(Lent { pointers, reports })
+    Ok(Lent {
+        pointers: vec![in heap; Pointer::default(); head.states as usize]?,
+        reports: vec![in heap; Report::default(); head.commands as usize]?,
+        text: String::new(heap),
+    })
 }
 
 // One cycle: its step, and what is printed of it, in one call.
@@ -93,64 +36,55 @@ fn run_cycle(
     lent: &mut Lent,
     turn: Turn,
     number: u32,
-    text: &mut String,
-) -> Result<Turn, Stop> {
+) -> Result<Turn, Stop<SessionFault>> {
+    let inputs = draft.inputs.as_slice();
     let cells = draft.cells.as_mut_slice();
     let pointers = lent.pointers.as_mut_slice();
     let reports = lent.reports.as_mut_slice();
-    let owed = match turn.step(design, draft.inputs.as_slice(), cells, pointers, reports) {
-        Ok(owed) => owed,
-        Err(refused) => return Err(Stop::Refused(refused.fault)),
-    };
-    text.clear();
-    let turn = match owed.write_out(text, number, reports, cells, pointers) {
-        Ok(turn) => turn,
-        Err(Unwritten { owed, fault }) => {
+    let owed = turn
+        .step(design, inputs, cells, pointers, reports)
+        .map_err(|refused| Stop::Refused(refused.fault))?;
+    lent.text.clear();
+    let turn = owed
+        .write_out(&mut lent.text, number, reports, cells, pointers)
+        .map_err(|Unwritten { owed, fault }| {
             owed.waive();
-            return Err(Stop::Refused(fault));
-        }
-    };
-    rt.stdout().write_all(text.as_bytes())?;
+            Stop::Refused(fault)
+        })?;
+    rt.stdout().write_all(lent.text.as_bytes())?;
     Ok(turn)
 }
 
 // Each part runs as soon as its lines are read.
-fn run(rt: &HostRuntime, text: &[u8]) -> Result<(), Stop> {
+fn run(rt: &HostRuntime, text: &[u8]) -> Result<(), Stop<SessionFault>> {
     let heap = rt.alloc();
     let mut reader = Reader::new(text)?;
     let mut draft = Draft::new(heap);
     let table = draft.read_lattice(&mut reader)?;
     draft.read_records(&mut reader)?;
+    let head = draft.tables().head;
     let design = accept(heap, table, draft.tables())?;
     draft.read_cells(&mut reader)?;
-    let mut lent = lend(heap, draft.head)?;
+    let mut lent = lend(heap, head)?;
     let mut turn = start(
         &design,
         draft.cells.as_slice(),
         lent.pointers.as_mut_slice(),
-    )?;
-    let mut printed = String::new(heap);
-    for n in 0..draft.head.cycles {
+    )
+    .map_err(Stop::Refused)?;
+    for number in 1..=head.cycles {
         draft.read_inputs(&mut reader)?;
-        turn = run_cycle(
-            rt,
-            &design,
-            &mut draft,
-            &mut lent,
-            turn,
-            n + 1,
-            &mut printed,
-        )?;
+        turn = run_cycle(rt, &design, &mut draft, &mut lent, turn, number)?;
     }
     reader.read_line()?;
     Ok(())
 }
 
 fn main(rt: HostRuntime) -> anyhow::Result<()> {
-    let text = read_input(&rt)?;
+    let text = read_input(rt.alloc(), rt.stdin())?;
     match run(&rt, text.as_slice()) {
         Ok(()) => Ok(()),
-        Err(Stop::Refused(fault)) => refuse(&rt, fault),
-        Err(Stop::Unprinted(fault)) => Err(fault.into()),
+        Err(Stop::Refused(fault)) => refuse(&rt, fault.number(), &fault),
+        Err(Stop::Failed(fault)) => Err(fault),
     }
 }

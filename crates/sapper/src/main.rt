@@ -1,61 +1,34 @@
 // Reads a design from standard input, and prints its lattice and what it accepted.
 #![tactic(auto)]
 
-use anyhow::anyhow;
+use console::{Stop, read_input, refuse};
 use design::accept;
-use draft::Draft;
+use draft::{Draft, read_rest};
 use reader::Reader;
 use rules::DesignFault;
-use std::io;
-use std::io::Read;
 
-mod draft;
 mod show;
 
-// One byte more than a text may have shows that it is too long.
-const MOST_INPUT: u64 = 60_001;
-
-fn read_input(rt: &HostRuntime) -> io::Result<Vec<u8>> {
-    let mut text = Vec::new(rt.alloc());
-    rt.stdin().take(MOST_INPUT).read_to_end(&mut text)?;
-    Ok(text)
-}
-
-// A refusal is the last line of the output; standard error says where.
-fn refuse(rt: &HostRuntime, fault: DesignFault) -> anyhow::Result<()> {
-    if let Some(number) = fault.number() {
-        println!(rt; "refused={number}")?;
-    }
-    eprintln!(rt; "{fault}")?;
-    Err(anyhow!("refused"))
-}
-
-fn run(rt: &HostRuntime, text: &[u8]) -> anyhow::Result<()> {
+// Each part is shown as soon as its lines are read.
+fn run(rt: &HostRuntime, text: &[u8]) -> Result<(), Stop<DesignFault>> {
     let heap = rt.alloc();
+    let mut reader = Reader::new(text)?;
     let mut draft = Draft::new(heap);
-    let mut reader = match Reader::new(text) {
-        Ok(reader) => reader,
-        Err(fault) => return refuse(rt, DesignFault::Line(fault)),
-    };
-    let table = match draft.read_lattice(&mut reader) {
-        Ok(table) => table,
-        Err(fault) => return refuse(rt, fault),
-    };
-    show::lattice(rt, &table)?;
-    if let Err(fault) = draft.read_records(&mut reader) {
-        return refuse(rt, fault);
-    }
-    match accept(heap, table, draft.tables()) {
-        Ok(_accepted) => show::design(rt, &draft)?,
-        Err(fault) => return refuse(rt, fault),
-    }
-    match draft.read_rest(&mut reader) {
-        Ok(()) => Ok(()),
-        Err(fault) => refuse(rt, fault),
-    }
+    let table = draft.read_lattice(&mut reader)?;
+    show::lattice(rt, &table, draft.levels)?;
+    draft.read_records(&mut reader)?;
+    accept(heap, table, draft.tables())?;
+    show::design(rt, &draft)?;
+    read_rest(&mut reader)?;
+    Ok(())
 }
 
+// As in `runner`, whose faults are of another type: what both could share would only take the number out of either.
 fn main(rt: HostRuntime) -> anyhow::Result<()> {
-    let text = read_input(&rt)?;
-    run(&rt, text.as_slice())
+    let text = read_input(rt.alloc(), rt.stdin())?;
+    match run(&rt, text.as_slice()) {
+        Ok(()) => Ok(()),
+        Err(Stop::Refused(fault)) => refuse(&rt, fault.number(), &fault),
+        Err(Stop::Failed(fault)) => Err(fault),
+    }
 }

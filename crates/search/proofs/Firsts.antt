@@ -1,7 +1,8 @@
 -- What the first number that passes a test is. Assumes nothing.
-use Rattle.std.proofs.Common.{◌≡◌, ℕ, zero, suc, ◌<◌, ◌≤◌, Bool, true, false, cond, sym, refl, ap, ◌∙◌, ⊎_elim, arith}
-use Rattle.std.proofs.lemmas.Bool.{cond-true, cond-false, both_ways, cases_lt}
-use Rattle.search.specs.First.{first}
+use Rattle.std.proofs.Common.{◌≡◌, ℕ, zero, suc, ◌<◌, ◌≤◌, Bool, true, false, cond, not, eqb, is_some, Option, None, Some, MatchOption, unwrap_or, sym, refl, ap, ◌∙◌, ⊎_elim, arith}
+use Rattle.std.proofs.lemmas.Bool.{cond-true, cond-false, both_ways, cases_lt, eq-eqb, lt-ltb, le-ltb, ltb-true, ltb-false}
+use Rattle.std.proofs.lemmas.Bool.Decides.{nat_tests}
+use Rattle.search.specs.First.{first, some_below, lowest_below}
 
 -- a number up to which none passes, and that passes unless it is n
 pub first_is : (p : ℕ → Bool) (n k : ℕ) → k ≤ n → ((j : ℕ) → j < k → p j ≡ false) → (k < n → p k ≡ true) → first p n ≡ k
@@ -47,15 +48,42 @@ none_passes p n j e l = first_before p n j (omega arith)
 pub some_first : (p : ℕ → Bool) (n k : ℕ) → k < n → p k ≡ true → first p n < n
 some_first p n k l e = ⊎_elim (λ h. h) (λ h. absurd (both_ways (p k) (first_before p n k (omega arith)) e)) (cases_lt (first p n) n)
 
--- A loop that looks for the first number that passes: what it keeps, and what it answers where one passes and at its end.
-abbrev pub NoneBelow : (ℕ → Bool) → ℕ → Type 0
-NoneBelow p i = (k : ℕ) → k < i → p k ≡ false
+-- the lowest that passes, or none, as the search of a range answers
+pub lowest_is : (p : ℕ → Bool) (n : ℕ) (r : Option ℕ) → MatchOption r ((k : ℕ) → 0 ≤ k → k < n → p k ≡ false) (λ i. (0 ≤ i) × (i < n) × (p i ≡ true) × ((k : ℕ) → 0 ≤ k → k < i → p k ≡ false)) → r ≡ lowest_below p n
+lowest_is p n None h = sym (cond-false (some_below p n) (Some (first p n)) None (le-ltb (first p n) n (omega (arith, first_is p n n (omega arith) (λ k l. h k (omega arith) l) (λ l. absurd (omega arith))))))
+lowest_is p n (Some i) h =
+    let e : first p n ≡ i = first_is p n i (omega (arith, h.1)) (λ k l. h.3 k (omega arith) l) (λ _. h.2) in
+    sym (cond-true (some_below p n) (Some (first p n)) None (lt-ltb (first p n) n (omega (arith, e, h.1))) ∙ ap Some e)
 
-pub first_here : (p : ℕ → Bool) (n i : ℕ) → NoneBelow p i → i < n → p i ≡ true → i ≡ first p n
-first_here p n i h l e = sym (first_is p n i (omega arith) h (λ _. e))
+pub lowest_or : (p : ℕ → Bool) (n : ℕ) → unwrap_or (lowest_below p n) n ≡ first p n
+lowest_or p n = ⊎_elim (λ l. ap (λ b. unwrap_or (cond b (Some (first p n)) None) n) (lt-ltb (first p n) n l)) (λ l. ap (λ b. unwrap_or (cond b (Some (first p n)) None) n) (le-ltb (first p n) n l) ∙ omega (arith, first_le p n)) (cases_lt (first p n) n)
 
-pub first_none : (p : ℕ → Bool) (n i : ℕ) → NoneBelow p i → n ≤ i → n ≡ first p n
-first_none p n i h l = sym (first_is p n n (omega arith) (λ k q. h k (omega arith)) (λ q. absurd (omega arith)))
+-- whether a number is answered
+some_if : (b : Bool) (k : ℕ) → is_some (cond b (Some k) None) ≡ b
+some_if true k = refl
+some_if false k = refl
+
+pub some_lowest : (p : ℕ → Bool) (n : ℕ) → is_some (lowest_below p n) ≡ some_below p n
+some_lowest p n = some_if (some_below p n) (first p n)
+
+pub none_lowest : (p : ℕ → Bool) (n : ℕ) (b : Bool) → is_some (lowest_below p n) ≡ not b → b ≡ eqb (first p n) n
+none_lowest p n true e = sym (eq-eqb (first p n) n (omega (arith, first_le p n, ltb-false (first p n) n (sym (some_lowest p n) ∙ e))))
+none_lowest p n false e = let l : first p n < n = ltb-true (first p n) n (sym (some_lowest p n) ∙ e) in grind (arith, nat_tests)
+
+-- what an answer tells of the first: where it is none, no number below n passes
+pub none_below : (p : ℕ → Bool) (n : ℕ) → lowest_below p n ≡ None → some_below p n ≡ false
+none_below p n e = sym (some_lowest p n) ∙ ap is_some e
+
+pub none_first : (p : ℕ → Bool) (n : ℕ) → lowest_below p n ≡ None → first p n ≡ n
+none_first p n e = omega (arith, first_le p n, ltb-false (first p n) n (none_below p n e))
+
+pub some_is_first : (p : ℕ → Bool) (n k : ℕ) → lowest_below p n ≡ Some k → (first p n ≡ k) × (k < n)
+some_is_first p n k e =
+    let l : first p n < n = ltb-true (first p n) n (sym (some_lowest p n) ∙ ap is_some e) in
+    let same : first p n ≡ k = ap (λ o. unwrap_or o 0) (sym (cond-true (some_below p n) (Some (first p n)) None (lt-ltb (first p n) n l)) ∙ e) in (
+      same,
+      omega (arith, l, same),
+    )
 
 -- two tests that agree below n have the same first
 pub first_same : (p q : ℕ → Bool) (n : ℕ) → ((j : ℕ) → j < n → p j ≡ q j) → first p n ≡ first q n

@@ -9,7 +9,7 @@ use std::alloc::AllocError;
 use std::fmt;
 
 // Why a run did not go on. The fault of a design, which carries that of a line or a lattice, is carried whole.
-#[derive(Clone, Copy)]
+#[derive(Clone, Copy, PartialEq, Eq, Debug)]
 pub enum SessionFault {
     Design(DesignFault),
     // No memory was to be had to write a report out.
@@ -28,7 +28,7 @@ impl From<LineFault> for SessionFault {
     ghost from_gives = { λ e r. r ≡ DesignOf (LineOf e) };
 
     fn from(e: LineFault) -> SessionFault {
-        SessionFault::Design(DesignFault::Line(e))
+        SessionFault::Design(e.into())
     }
 }
 
@@ -36,7 +36,7 @@ impl From<LatticeFault> for SessionFault {
     ghost from_gives = { λ e r. r ≡ DesignOf (LatticeOf e) };
 
     fn from(e: LatticeFault) -> SessionFault {
-        SessionFault::Design(DesignFault::Lattice(e))
+        SessionFault::Design(e.into())
     }
 }
 

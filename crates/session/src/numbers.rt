@@ -5,7 +5,7 @@ ghost use Rattle.session.specs.Faults.{refusal};
 use crate::faults::SessionFault;
 
 impl SessionFault {
-    // The number of the refusal; want of memory has none.
+    // The number of the refusal; want of memory has none. A method, since a conversion into a number would not say which.
     pub fn number(&self) -> Option<u32>
         ensures { result ≡ numbered (refusal self.now) }
     {

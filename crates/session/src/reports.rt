@@ -3,22 +3,16 @@ ghost use Rattle.std.specs.Prelude.{◌≡◌, ◌++◌, take, is_ok, if◌then�
 ghost use Rattle.output.specs.Printed.{cycle_text};
 ghost use Rattle.session.specs.Turns.{Written, the_turn};
 
-use crate::faults::SessionFault;
 use crate::turns::{Owed, Turn, Unwritten};
 use output::cycle_text;
-use records::{Labeled, Pointer, Report};
+use records::{Cell, Pointer, Report};
 use std::alloc::AllocError;
 
 // The first reports of a table; all of it where there are no more.
 fn first_reports(reports: &[Report], count: u32) -> &[Report]
     ensures { result.now ≡ take count reports.now }
 {
-    let count = count as usize;
-    if count < reports.len() {
-        &reports[0..count]
-    } else {
-        reports
-    }
+    reports.get(..count as usize).unwrap_or(reports)
 }
 
 // Appends all that is printed of a cycle, or nothing.
@@ -26,7 +20,7 @@ fn append_cycle(
     text: &mut String,
     cycle: u32,
     reports: &[Report],
-    cells: &[Labeled<u32>],
+    cells: &[Cell],
     pointers: &[Pointer],
 ) -> Result<(), AllocError>
     ensures { string_bytes text.new ≡ (if is_ok result then string_bytes text.old ++ cycle_text cycle reports.now cells.now pointers.now else string_bytes text.old) }
@@ -51,26 +45,31 @@ impl Owed {
         text: &mut String,
         cycle: u32,
         reports: &[Report],
-        cells: &[Labeled<u32>],
+        cells: &[Cell],
         pointers: &[Pointer],
     ) -> Result<Turn, Unwritten>
         ensures { Written self (cycle_text cycle (take self.count reports.now) cells.now pointers.now) (string_bytes text.old) (string_bytes text.new) result }
     {
         let reports = first_reports(reports, self.count);
+        // Both arms use up what is owed, so that no two closures can.
         match append_cycle(text, cycle, reports, cells, pointers) {
-            Ok(()) => {
-                let Owed { count: _ } = self;
-                Ok(Turn { given: () })
-            }
-            Err(_) => Err(Unwritten {
+            Ok(()) => Ok(self.settle()),
+            Err(e) => Err(Unwritten {
                 owed: self,
-                fault: SessionFault::Memory,
+                fault: e.into(),
             }),
         }
     }
 
     // Gives the next turn without writing the reports out.
     pub fn waive(self) -> Turn
+        ensures { result ≡ the_turn }
+    {
+        self.settle()
+    }
+
+    // Nothing is owed any more, and the next turn is given.
+    fn settle(self) -> Turn
         ensures { result ≡ the_turn }
     {
         let Owed { count: _ } = self;

@@ -11,12 +11,12 @@ use crate::faults::SessionFault;
 use crate::turns::{NotTaken, Owed, Turn};
 use design::Accepted;
 use lattice::Lattice;
-use records::{Labeled, Pointer, Report};
+use records::{Cell, Input, Pointer, Report};
 
 // Starts a design on the cells it is lent, and gives the first turn. A refusal leaves all as it was.
 pub fn start<L: Lattice>(
     design: &Accepted<L>,
-    cells: &[Labeled<u32>],
+    cells: &[Cell],
     pointers: &mut [Pointer],
 ) -> Result<Turn, SessionFault>
     ensures answer { Decides refusal (start_verdict (L.Lattice.model design.now.lattice).joins (owned design.now.records) cells.now (length pointers.old)) (λ _. Unit {0}) result }
@@ -32,8 +32,8 @@ impl Turn {
     pub fn step<L: Lattice>(
         self,
         design: &Accepted<L>,
-        inputs: &[Labeled<u32>],
-        cells: &mut [Labeled<u32>],
+        inputs: &[Input],
+        cells: &mut [Cell],
         pointers: &mut [Pointer],
         reports: &mut [Report],
     ) -> Result<Owed, NotTaken>
@@ -43,12 +43,11 @@ impl Turn {
         ensures reports { reports.new ≡ left_by (step_verdict (L.Lattice.model design.now.lattice).joins (owned design.now.records) cells.old pointers.old inputs.now (length reports.old)) (laid (cycle (L.Lattice.model design.now.lattice).joins (owned design.now.records) inputs.now (memory_of cells.old pointers.old)).reports reports.old) reports.old }
         ensures goes_on { (step_verdict (L.Lattice.model design.now.lattice).joins (owned design.now.records) cells.old pointers.old inputs.now (length reports.old)) ≡ None → GoesOn (L.Lattice.model design.now.lattice).joins (owned design.now.records) cells.new pointers.new }
     {
-        match machine::step(design, inputs, cells, pointers, reports) {
-            Ok(count) => Ok(Owed { count }),
-            Err(fault) => Err(NotTaken {
+        machine::step(design, inputs, cells, pointers, reports)
+            .map(|count| Owed { count })
+            .map_err(|fault| NotTaken {
                 turn: self,
-                fault: SessionFault::Design(fault),
-            }),
-        }
+                fault: fault.into(),
+            })
     }
 }

@@ -8,26 +8,17 @@ use records::{Action, Mode};
 pub fn is_number(field: Option<u32>, n: u32) -> bool
     ensures { result ≡ holds field n }
 {
-    match field {
-        Some(m) => m == n,
-        None => false,
-    }
+    field == Some(n)
 }
 
 pub fn is_enforced(mode: Mode) -> bool
     ensures { result ≡ enforced mode }
 {
-    match mode {
-        Mode::Enforced => true,
-        Mode::Dynamic => false,
-    }
+    mode == Mode::Enforced
 }
 
 pub fn is_if(action: Action) -> bool
     ensures { result ≡ is_if action }
 {
-    match action {
-        Action::If => true,
-        _ => false,
-    }
+    action == Action::If
 }

@@ -10,7 +10,7 @@ use Rattle.lattice.specs.Model.{Order, Bounds, Lawful, turned}
 use Rattle.lattice.specs.Bits.{bit_of_and, bit_of_or, bit_zero, bit_power, bit_above, bit_within, within_bits}
 use Rattle.lattice.specs.Laws.{turned_order, strict_bounds, strict_else}
 use Rattle.search.specs.First.{first, some_below}
-use Rattle.search.proofs.Firsts.{none_passes, some_first, first_passes, first_le, first_here}
+use Rattle.search.proofs.Firsts.{none_passes, some_first, first_passes, first_le, first_is}
 use Rattle.table.specs.Rows.{clashes, breaks, upper, least_in, bound, column, columns, unbounded, lacks, lacking, lowest, least_of, width_of, table_model}
 
 -- rows of a partial order on the levels below n
@@ -301,7 +301,7 @@ width_fits n l =
 pub width_is : (n v : ℕ) → v < 4 → (0 < v → 2 ^ v < n) → n ≤ 2 ^ (1 + v) → 1 + v ≡ width_of n
 width_is n v l low high =
     ap (λ k. 1 + k)
-    (first_here (λ k. leb n (2 ^ (1 + k))) 4 v (λ j q. lt-leb n (2 ^ (1 + j)) (lt_of_le_of_lt (pow_mono (omega arith)) (low (omega arith)))) l (le-leb n (2 ^ (1 + v)) high))
+    (sym (first_is (λ k. leb n (2 ^ (1 + k))) 4 v (omega arith) (λ j q. lt-leb n (2 ^ (1 + j)) (lt_of_le_of_lt (pow_mono (omega arith)) (low (omega arith)))) (λ _. le-leb n (2 ^ (1 + v)) high)))
 
 pub table_lawful : (n : ℕ) (rows : ℕ → ℕ) → 1 ≤ n → n ≤ 16 → first (breaks n rows) n ≡ n → lacking n rows (columns n rows) ≡ n → Lawful (table_model n rows)
 table_lawful n rows some few ordered bounded =

@@ -1,7 +1,7 @@
 // Least levels and bounds in a relation.
-ghost use Rattle.std.specs.Prelude.{◌≡◌, ◌||◌};
-ghost use Rattle.table.specs.Rows.{rows_of, least_in, bound, lowest, least_of, unbounded, lacking, lacked};
-ghost use Rattle.search.specs.First.{some_below};
+ghost use Rattle.std.specs.Prelude.{◌≡◌};
+ghost use Rattle.search.specs.First.{some_below, lowest_below};
+ghost use Rattle.table.specs.Rows.{rows_of, upper, least_in, lowest, least_of, lacks, lacked};
 
 use crate::relation::{Relation, has, includes};
 use search::{Test, first_below};
@@ -21,14 +21,6 @@ impl Test for LeastIn<'_> {
     }
 }
 
-// The least level to which a and b flow, or the count where there is none.
-pub(crate) fn least_above(relation: &Relation, a: u32, b: u32) -> u32
-    ensures { result ≡ bound relation.now.count (rows_of relation.now.rows) a b }
-{
-    let row = relation.row(a) & relation.row(b);
-    first_below(&LeastIn { relation, row }, relation.count)
-}
-
 // The levels that flow to every level of a row.
 #[derive(Drop)]
 struct Lowest<'a> {
@@ -44,74 +36,83 @@ impl Test for Lowest<'_> {
     }
 }
 
-// The level that flows to every level, or the count where there is none.
-pub(crate) fn least(relation: &Relation) -> u32
-    ensures { result ≡ least_of relation.now.count (rows_of relation.now.rows) }
-{
-    let all = (1u32 << relation.count) - 1;
-    first_below(&Lowest { relation, all }, relation.count)
+impl Relation {
+    // The least level to which a and b flow.
+    pub(crate) fn least_above(&self, a: u32, b: u32) -> Option<u32>
+        ensures { result ≡ lowest_below (least_in (rows_of self.now.rows) (upper (rows_of self.now.rows) a b)) self.now.count }
+    {
+        let row = self.row(a) & self.row(b);
+        first_below(
+            &LeastIn {
+                relation: self,
+                row,
+            },
+            self.count,
+        )
+    }
+
+    // The level that flows to every level, or the count where there is none, as in no lattice.
+    pub(crate) fn least(&self) -> u32
+        ensures { result ≡ least_of self.now.count (rows_of self.now.rows) }
+    {
+        let all = (1u32 << self.count) - 1;
+        let lowest = Lowest {
+            relation: self,
+            all,
+        };
+        first_below(&lowest, self.count).unwrap_or(self.count)
+    }
 }
 
-// The levels with which level a lacks a bound, in an order or in the same order turned round.
+// An order, and the same order turned round: a bound in the one is a join, in the other a meet.
+#[derive(Clone, Copy)]
+pub(crate) struct Bounds<'a> {
+    pub(crate) order: &'a Relation,
+    pub(crate) turned: &'a Relation,
+    ghost alike: { turned.now.count ≡ order.now.count },
+}
+
+// The levels with which level a lacks a bound.
 #[derive(Drop)]
-struct Lacks<'a, 'b> {
-    relation: &'a Relation,
-    turned: &'b Relation,
+struct Lacks<'a> {
+    bounds: Bounds<'a>,
     a: u32,
 }
 
-impl Test for Lacks<'_, '_> {
-    ghost test = { λ x b. unbounded x.relation.now.count (rows_of x.relation.now.rows) x.a b || unbounded x.turned.now.count (rows_of x.turned.now.rows) x.a b };
+impl Test for Lacks<'_> {
+    ghost test = { λ x. lacks x.bounds.order.now.count (rows_of x.bounds.order.now.rows) (rows_of x.bounds.turned.now.rows) x.a };
 
     fn passes(&self, b: u32) -> bool {
-        let join = least_above(self.relation, self.a, b);
-        let meet = least_above(self.turned, self.a, b);
-        (join == self.relation.count) | (meet == self.turned.count)
+        let join = self.bounds.order.least_above(self.a, b);
+        let meet = self.bounds.turned.least_above(self.a, b);
+        join.is_none() | meet.is_none()
     }
-}
-
-// The lowest level with which level a lacks a bound, or the count.
-pub(crate) fn first_lacked(relation: &Relation, turned: &Relation, a: u32) -> u32
-    requires { turned.now.count ≡ relation.now.count }
-    ensures { result ≡ lacked relation.now.count (rows_of relation.now.rows) (rows_of turned.now.rows) a }
-{
-    first_below(
-        &Lacks {
-            relation,
-            turned,
-            a,
-        },
-        relation.count,
-    )
 }
 
 // The levels that lack a bound with another.
-#[derive(Drop)]
-struct Lacking<'a, 'b> {
-    relation: &'a Relation,
-    turned: &'b Relation,
-}
-
-impl Test for Lacking<'_, '_> {
-    ghost test = { λ x a. some_below (λ b. unbounded x.relation.now.count (rows_of x.relation.now.rows) a b || unbounded x.turned.now.count (rows_of x.turned.now.rows) a b) x.relation.now.count };
+impl Test for Bounds<'_> {
+    ghost test = { λ x a. some_below (lacks x.order.now.count (rows_of x.order.now.rows) (rows_of x.turned.now.rows) a) x.order.now.count };
 
     fn passes(&self, a: u32) -> bool {
-        let relation = self.relation;
-        first_below(
-            &Lacks {
-                relation,
-                turned: self.turned,
-                a,
-            },
-            relation.count,
-        ) < relation.count
+        let bounds = *self;
+        first_below(&Lacks { bounds, a }, bounds.order.count).is_some()
     }
 }
 
-// The lowest level that lacks a bound with another, or the count.
-pub(crate) fn first_lacking(relation: &Relation, turned: &Relation) -> u32
-    requires { turned.now.count ≡ relation.now.count }
-    ensures { result ≡ lacking relation.now.count (rows_of relation.now.rows) (rows_of turned.now.rows) }
-{
-    first_below(&Lacking { relation, turned }, relation.count)
+impl Bounds<'_> {
+    // The lowest level that lacks a bound with another.
+    pub(crate) fn first_lacking(&self) -> Option<u32>
+        ensures { result ≡ lowest_below (λ a. some_below (lacks self.now.order.now.count (rows_of self.now.order.now.rows) (rows_of self.now.turned.now.rows) a) self.now.order.now.count) self.now.order.now.count }
+    {
+        first_below(self, self.order.count)
+    }
+
+    // The lowest level with which level a lacks a bound, or the count.
+    pub(crate) fn first_lacked(&self, a: u32) -> u32
+        ensures { result ≡ lacked self.now.order.now.count (rows_of self.now.order.now.rows) (rows_of self.now.turned.now.rows) a }
+    {
+        let bounds = *self;
+        let count = bounds.order.count;
+        first_below(&Lacks { bounds, a }, count).unwrap_or(count)
+    }
 }

@@ -7,9 +7,8 @@ ghost use Rattle.lattice.specs.Faults.{Answers, refusal};
 ghost use Rattle.table.specs.Rows.{rows_of, breaks, columns, lacking, least_of, order_verdict, table_verdict, table_model, width_of};
 ghost use Rattle.table.specs.Orders.{table_lawful};
 
-use bounds::{first_lacked, first_lacking, least, least_above};
+use bounds::Bounds;
 use lattice::{Lattice, LatticeFault};
-use order::first_broken;
 use relation::{MOST_LEVELS, Relation, has};
 
 mod bounds;
@@ -48,18 +47,20 @@ impl Table {
         requires { 1 ≤ relation.count }
         ensures { Answers refusal (order_verdict relation.count (rows_of relation.rows)) (λ t. t.relation ≡ relation) result }
     {
-        let row = first_broken(&relation);
-        if row < relation.count {
+        if let Some(row) = relation.first_broken() {
             return Err(LatticeFault::OrderBroken { row });
         }
         let turned = relation.turned();
-        let low = first_lacking(&relation, &turned);
-        if low < relation.count {
-            let high = first_lacked(&relation, &turned, low);
+        let bounds = Bounds {
+            order: &relation,
+            turned: &turned,
+        };
+        if let Some(low) = bounds.first_lacking() {
+            let high = bounds.first_lacked(low);
             return Err(LatticeFault::NoBound { low, high });
         }
-        let bottom = least(&relation);
-        let top = least(&turned);
+        let bottom = relation.least();
+        let top = turned.least();
         Ok(Table {
             relation,
             bottom,
@@ -100,7 +101,8 @@ impl Lattice for Table {
 
     fn join(&self, a: u32, b: u32) -> u32 {
         if self.is_level(a) & self.is_level(b) {
-            least_above(&self.relation, a, b)
+            let join = self.relation.least_above(a, b);
+            join.unwrap_or(self.relation.count)
         } else {
             self.bottom
         }
@@ -108,7 +110,8 @@ impl Lattice for Table {
 
     fn meet(&self, a: u32, b: u32) -> u32 {
         if self.is_level(a) & self.is_level(b) {
-            least_above(&self.relation.turned(), a, b)
+            let meet = self.relation.turned().least_above(a, b);
+            meet.unwrap_or(self.relation.count)
         } else {
             self.bottom
         }

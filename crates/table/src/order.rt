@@ -1,6 +1,6 @@
 // Whether a relation is a partial order.
 ghost use Rattle.std.specs.Prelude.{◌≡◌};
-ghost use Rattle.search.specs.First.{first};
+ghost use Rattle.search.specs.First.{lowest_below};
 ghost use Rattle.table.specs.Rows.{rows_of, clashes, breaks};
 
 use crate::relation::{Relation, has, includes};
@@ -36,12 +36,15 @@ impl Test for Breaks<'_> {
         let relation = self.relation;
         let row = relation.row(i);
         let clash = first_below(&Clashes { relation, i }, relation.count);
-        (row >= 1u32 << relation.count) | !has(row, i) | (clash < relation.count)
+        (row >= 1u32 << relation.count) | !has(row, i) | clash.is_some()
     }
 }
 
-pub(crate) fn first_broken(relation: &Relation) -> u32
-    ensures { result ≡ first (breaks relation.now.count (rows_of relation.now.rows)) relation.now.count }
-{
-    first_below(&Breaks { relation }, relation.count)
+impl Relation {
+    // The lowest row that is no row of a partial order.
+    pub(crate) fn first_broken(&self) -> Option<u32>
+        ensures { result ≡ lowest_below (breaks self.now.count (rows_of self.now.rows)) self.now.count }
+    {
+        first_below(&Breaks { relation: self }, self.count)
+    }
 }

@@ -7,24 +7,13 @@ pub(crate) use members::has;
 
 pub(crate) const MOST_LEVELS: usize = 16;
 
-// A relation on the levels below `count`: level i is related to level j when bit j of row i is set.
+// A relation on the levels below `count`: level i is related to level j when bit j of row i is set. The rows are an array,
+// with their count beside them, so that a table takes no memory from a heap and is `Copy`.
 #[derive(Clone, Copy)]
 pub(crate) struct Relation {
     pub(crate) count: u32,
     pub(crate) rows: [u32; MOST_LEVELS],
     ghost few: { count ≤ 16 },
-}
-
-impl Relation {
-    // Row i, empty past the last.
-    pub(crate) fn row(&self, i: u32) -> u32
-        ensures { result ≡ rows_of self.now.rows i }
-    {
-        match self.rows.get(i as usize) {
-            Some(row) => *row,
-            None => 0,
-        }
-    }
 }
 
 // Every bit of `part` is set in a row.
@@ -42,13 +31,19 @@ impl Relation {
         ensures rows { rows_of result.rows ≡ rows_of (take count lent.now) }
     {
         let mut rows = [0; MOST_LEVELS];
-        for i in 0..count {
-            rows[i as usize] = lent[i as usize];
-        }
+        let len = count as usize;
+        rows[..len].copy_from_slice(&lent[..len]);
         Relation { count, rows }
     }
 
-    // The levels that are related to level j, as a row.
+    // Row i, empty past the last.
+    pub(crate) fn row(&self, i: u32) -> u32
+        ensures { result ≡ rows_of self.now.rows i }
+    {
+        self.rows.get(i as usize).copied().unwrap_or(0)
+    }
+
+    // The levels that are related to level j, as a row: i is a level and a bit, and no mere place.
     fn column(&self, j: u32) -> u32
         ensures { result ≡ column (rows_of self.now.rows) j self.now.count }
     {

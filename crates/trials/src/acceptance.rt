@@ -1,9 +1,14 @@
 // A small good design, and one change to it for each edge of each rule.
-use crate::parts::{branch, expression, fall, goto, head, place, put, register, set, state, tag};
+use crate::parts::{
+    Refusal, at, branch, expression, fall, goto, head, put, refused, register, set, state, tag,
+};
 use design::accept;
 use records::{Command, Expression, Head, Mode, Operator, Port, Register, State};
+use rules::Kind;
 use shape::Tables;
 use std::alloc::Global;
+use std::process::Abort;
+use std::test::Fail;
 use table::Table;
 
 // levels 0 and 1, 0 flowing to 1
@@ -84,18 +89,13 @@ fn changed(change: Change) -> Sketch {
     sketch
 }
 
-// Number, kind and record of a refusal; zeros where the design is accepted, and nines where memory or the lattice fails.
-fn judge(heap: Global, tables: Tables<'_>) -> (u32, u32, u32) {
-    let Ok(lattice) = Table::new(2, &ROWS) else {
-        return (9, 9, 9);
-    };
-    match accept(heap, lattice, tables) {
-        Ok(_) => (0, 0, 0),
-        Err(fault) => place(fault),
-    }
+// What acceptance answers: none where it accepts.
+fn judge(heap: Global, tables: Tables<'_>) -> Result<Option<Refusal>, Fail> {
+    let lattice = Table::new(2, &ROWS)?;
+    Ok(accept(heap, lattice, tables).err().map(refused))
 }
 
-fn judged(heap: Global, sketch: &Sketch) -> (u32, u32, u32) {
+fn judged(heap: Global, sketch: &Sketch) -> Result<Option<Refusal>, Fail> {
     let ports = [sketch.port];
     let tables = Tables {
         head: sketch.head,
@@ -108,213 +108,254 @@ fn judged(heap: Global, sketch: &Sketch) -> (u32, u32, u32) {
     judge(heap, tables)
 }
 
+// Acceptance answers what is due to each change.
+fn check(rt: &impl Abort, heap: Global, cases: &[(Change, Option<Refusal>)]) -> Result<(), Fail> {
+    for (change, due) in cases {
+        assert_eq!(rt; judged(heap, &changed(*change))?, *due);
+    }
+    Ok(())
+}
+
 #[test]
-fn sizes(rt: HostRuntime) {
+fn sizes(rt: HostRuntime) -> Result<(), Fail> {
     let cases = [
-        (Change::Nothing, (0, 0, 0)),
+        (Change::Nothing, None),
         // a table may be longer than the head says, and not shorter
-        (Change::Counts(head(2, 3, 4, 5, 10)), (2, 0, 0)),
-        (Change::Counts(head(1, 3, 4, 5, 11)), (2, 4, 0)),
-        (Change::Counts(head(1, 3, 1, 5, 10)), (3, 2, 1)),
-        (Change::Counts(head(1, 0, 4, 5, 10)), (3, 1, 0)),
-        (Change::Counts(head(1, 3, 4, 5, 0)), (3, 4, 0)),
-        (Change::Width(0), (3, 0, 0)),
-        (Change::Width(33), (3, 0, 0)),
+        (Change::Counts(head(2, 3, 4, 5, 10)), at(2, Kind::Port, 0)),
+        (
+            Change::Counts(head(1, 3, 4, 5, 11)),
+            at(2, Kind::Command, 0),
+        ),
+        (Change::Counts(head(1, 3, 1, 5, 10)), at(3, Kind::State, 1)),
+        (
+            Change::Counts(head(1, 0, 4, 5, 10)),
+            at(3, Kind::Register, 0),
+        ),
+        (Change::Counts(head(1, 3, 4, 5, 0)), at(3, Kind::Command, 0)),
+        (Change::Width(0), at(3, Kind::Port, 0)),
+        (Change::Width(33), at(3, Kind::Port, 0)),
         (
             Change::Register(0, register(33, 1, Mode::Enforced, Some(0))),
-            (3, 1, 0),
+            at(3, Kind::Register, 0),
         ),
         (
             Change::Register(0, register(8, 0, Mode::Enforced, Some(0))),
-            (3, 1, 0),
+            at(3, Kind::Register, 0),
         ),
         (
             Change::Register(2, register(8, 2, Mode::Dynamic, None)),
-            (3, 1, 2),
+            at(3, Kind::Register, 2),
         ),
         // 1,024 cells in all, and one more
         (
             Change::Register(1, register(8, 1022, Mode::Enforced, Some(1))),
-            (0, 0, 0),
+            None,
         ),
         (
             Change::Register(1, register(8, 1023, Mode::Enforced, Some(1))),
-            (3, 1, 2),
+            at(3, Kind::Register, 2),
         ),
         (
             Change::Register(1, register(8, u32::MAX, Mode::Enforced, Some(1))),
-            (3, 1, 1),
+            at(3, Kind::Register, 1),
         ),
     ];
-    for (change, due) in cases {
-        assert_eq!(rt; judged(rt.alloc(), &changed(change)), due);
-    }
+    check(&rt, rt.alloc(), &cases)
 }
 
 #[test]
-fn links(rt: HostRuntime) {
+fn links(rt: HostRuntime) -> Result<(), Fail> {
     let cases = [
         (
             Change::Register(2, register(8, 1, Mode::Dynamic, Some(0))),
-            (4, 1, 2),
+            at(4, Kind::Register, 2),
         ),
         (
             Change::Register(0, register(8, 1, Mode::Enforced, None)),
-            (4, 1, 0),
+            at(4, Kind::Register, 0),
         ),
         (
             Change::State(0, state(Some(0), Mode::Enforced, Some(0), 0)),
-            (4, 2, 0),
+            at(4, Kind::State, 0),
         ),
         (
             Change::State(1, state(None, Mode::Enforced, Some(1), 1)),
-            (4, 2, 1),
+            at(4, Kind::State, 1),
         ),
         (
             Change::State(2, state(Some(2), Mode::Dynamic, None, 6)),
-            (4, 2, 2),
+            at(4, Kind::State, 2),
         ),
         (
             Change::State(3, state(Some(2), Mode::Dynamic, Some(1), 7)),
-            (4, 2, 3),
+            at(4, Kind::State, 3),
         ),
         (
             Change::State(3, state(Some(2), Mode::Dynamic, None, 10)),
-            (4, 2, 3),
+            at(4, Kind::State, 3),
         ),
         (
             Change::Expression(0, expression(Operator::Constant, 7, Some(0))),
-            (4, 3, 0),
+            at(4, Kind::Expression, 0),
         ),
         (
             Change::Expression(1, expression(Operator::Input, 1, None)),
-            (4, 3, 1),
+            at(4, Kind::Expression, 1),
         ),
         (
             Change::Expression(2, expression(Operator::Read, 1, None)),
-            (4, 3, 2),
+            at(4, Kind::Expression, 2),
         ),
         (
             Change::Expression(2, expression(Operator::Read, 3, Some(0))),
-            (4, 3, 2),
+            at(4, Kind::Expression, 2),
         ),
         (
             Change::Expression(4, expression(Operator::Read, 2, Some(0))),
-            (4, 3, 4),
+            at(4, Kind::Expression, 4),
         ),
         (
             Change::Expression(3, expression(Operator::Less, 3, Some(2))),
-            (4, 3, 3),
+            at(4, Kind::Expression, 3),
         ),
         (
             Change::Expression(3, expression(Operator::Less, 2, Some(3))),
-            (4, 3, 3),
+            at(4, Kind::Expression, 3),
         ),
-        (Change::Command(3, set(3, None, 0, None, None)), (4, 4, 3)),
-        (Change::Command(3, set(2, None, 5, None, None)), (4, 4, 3)),
-        (Change::Command(4, tag(1, None, 1, None, None)), (4, 4, 4)),
+        (
+            Change::Command(3, set(3, None, 0, None, None)),
+            at(4, Kind::Command, 3),
+        ),
+        (
+            Change::Command(3, set(2, None, 5, None, None)),
+            at(4, Kind::Command, 3),
+        ),
+        (
+            Change::Command(4, tag(1, None, 1, None, None)),
+            at(4, Kind::Command, 4),
+        ),
         // a link to itself, a command named twice, one never named
         (
             Change::Command(2, branch(Some(2), None, 3, Some(5))),
-            (4, 4, 2),
+            at(4, Kind::Command, 2),
         ),
         (
             Change::Command(2, branch(Some(4), Some(4), 3, Some(5))),
-            (4, 4, 4),
+            at(4, Kind::Command, 4),
         ),
         (
             Change::Command(2, branch(None, None, 3, Some(5))),
-            (4, 4, 4),
+            at(4, Kind::Command, 4),
         ),
-        (Change::Command(9, goto(4, None, None)), (4, 4, 9)),
+        (
+            Change::Command(9, goto(4, None, None)),
+            at(4, Kind::Command, 9),
+        ),
     ];
-    for (change, due) in cases {
-        assert_eq!(rt; judged(rt.alloc(), &changed(change)), due);
-    }
+    check(&rt, rt.alloc(), &cases)
 }
 
 #[test]
-fn levels_and_places(rt: HostRuntime) {
+fn levels_and_places(rt: HostRuntime) -> Result<(), Fail> {
     let cases = [
         (
             Change::Register(1, register(8, 4, Mode::Enforced, Some(2))),
-            (5, 1, 1),
+            at(5, Kind::Register, 1),
         ),
         (
             Change::State(0, state(None, Mode::Enforced, Some(1), 0)),
-            (5, 2, 0),
+            at(5, Kind::State, 0),
         ),
         (
             Change::State(0, state(None, Mode::Dynamic, None, 0)),
-            (5, 2, 0),
+            at(5, Kind::State, 0),
         ),
         (
             Change::State(1, state(Some(0), Mode::Enforced, Some(2), 1)),
-            (5, 2, 1),
+            at(5, Kind::State, 1),
         ),
         (
             Change::Command(4, tag(1, Some(0), 2, None, None)),
-            (5, 4, 4),
+            at(5, Kind::Command, 4),
         ),
         // a goto in the root, to a cousin, to the root; a fall in a leaf; a tag of a dynamic register
-        (Change::Command(0, goto(1, None, None)), (6, 4, 0)),
-        (Change::Command(8, goto(1, None, None)), (6, 4, 8)),
-        (Change::Command(5, goto(0, None, None)), (6, 4, 5)),
-        (Change::Command(5, fall(None, None)), (6, 4, 5)),
-        (Change::Command(4, tag(2, None, 1, None, None)), (6, 4, 4)),
+        (
+            Change::Command(0, goto(1, None, None)),
+            at(6, Kind::Command, 0),
+        ),
+        (
+            Change::Command(8, goto(1, None, None)),
+            at(6, Kind::Command, 8),
+        ),
+        (
+            Change::Command(5, goto(0, None, None)),
+            at(6, Kind::Command, 5),
+        ),
+        (
+            Change::Command(5, fall(None, None)),
+            at(6, Kind::Command, 5),
+        ),
+        (
+            Change::Command(4, tag(2, None, 1, None, None)),
+            at(6, Kind::Command, 4),
+        ),
         // an alt on a dynamic set, on a goto to a dynamic state, on an if
         (
             Change::Command(1, set(2, None, 1, Some(2), Some(3))),
-            (6, 4, 1),
+            at(6, Kind::Command, 1),
         ),
         // two faults at once: the first in order wins
         (
             Change::State(0, state(None, Mode::Dynamic, Some(1), 0)),
-            (4, 2, 0),
+            at(4, Kind::State, 0),
         ),
     ];
-    for (change, due) in cases {
-        assert_eq!(rt; judged(rt.alloc(), &changed(change)), due);
-    }
+    check(&rt, rt.alloc(), &cases)
 }
 
 #[test]
-fn ends(rt: HostRuntime) {
+fn ends(rt: HostRuntime) -> Result<(), Fail> {
     let cases = [
         // a state's chain that does not end
-        (Change::Command(8, set(2, None, 0, None, None)), (7, 2, 3)),
+        (
+            Change::Command(8, set(2, None, 0, None, None)),
+            at(7, Kind::State, 3),
+        ),
         // a branch that ends beside one that does not
-        (Change::Command(4, goto(2, None, None)), (7, 4, 2)),
+        (
+            Change::Command(4, goto(2, None, None)),
+            at(7, Kind::Command, 2),
+        ),
         // an alt that ends though its command does not leave, and the other way round
-        (Change::Command(3, goto(1, None, None)), (7, 4, 1)),
-        (Change::Command(9, set(2, None, 0, None, None)), (7, 4, 6)),
+        (
+            Change::Command(3, goto(1, None, None)),
+            at(7, Kind::Command, 1),
+        ),
+        (
+            Change::Command(9, set(2, None, 0, None, None)),
+            at(7, Kind::Command, 6),
+        ),
     ];
-    for (change, due) in cases {
-        assert_eq!(rt; judged(rt.alloc(), &changed(change)), due);
-    }
+    check(&rt, rt.alloc(), &cases)
 }
 
 // From the second on, each expression adds the one before it to itself; from the thirteenth on, the first.
-fn add_up(expressions: &mut [Expression]) {
-    for k in 1u32..257 {
-        let operand = if k < 13 { k - 1 } else { 0 };
-        put(
-            expressions,
-            k as usize,
-            expression(Operator::Add, operand, Some(operand)),
-        );
+fn add_up(expressions: &mut [Expression; 257]) {
+    for (before, slot) in (0u32..256).zip(&mut expressions[1..]) {
+        let operand = if before < 12 { before } else { 0 };
+        *slot = expression(Operator::Add, operand, Some(operand));
     }
 }
 
 // From the second on, a chain of sets.
-fn chain(commands: &mut [Command]) {
-    for k in 1u32..257 {
-        put(commands, k as usize, set(0, None, 0, Some(k + 1), None));
+fn chain(commands: &mut [Command; 257]) {
+    for (next, slot) in (2u32..258).zip(&mut commands[1..]) {
+        *slot = set(0, None, 0, Some(next), None);
     }
 }
 
 // A design of the largest tables, with these counts.
-fn large(heap: Global, head: Head) -> (u32, u32, u32) {
+fn large(heap: Global, head: Head) -> Result<Option<Refusal>, Fail> {
     let mut expressions = [expression(Operator::Constant, 0, None); 257];
     add_up(&mut expressions);
     let mut commands = [fall(None, None); 257];
@@ -335,21 +376,22 @@ fn large(heap: Global, head: Head) -> (u32, u32, u32) {
 }
 
 #[test]
-fn largest(rt: HostRuntime) {
+fn largest(rt: HostRuntime) -> Result<(), Fail> {
     let cases = [
-        (head(16, 32, 2, 12, 256), (0, 0, 0)),
-        (head(17, 32, 2, 12, 256), (3, 0, 17)),
-        (head(16, 33, 2, 12, 256), (3, 1, 33)),
-        (head(16, 32, 33, 12, 256), (3, 2, 33)),
-        (head(16, 32, 2, 257, 256), (3, 3, 257)),
-        (head(16, 32, 2, 12, 257), (3, 4, 257)),
+        (head(16, 32, 2, 12, 256), None),
+        (head(17, 32, 2, 12, 256), at(3, Kind::Port, 17)),
+        (head(16, 33, 2, 12, 256), at(3, Kind::Register, 33)),
+        (head(16, 32, 33, 12, 256), at(3, Kind::State, 33)),
+        (head(16, 32, 2, 257, 256), at(3, Kind::Expression, 257)),
+        (head(16, 32, 2, 12, 257), at(3, Kind::Command, 257)),
         // an expression 13 deep
-        (head(16, 32, 2, 13, 256), (8, 3, 12)),
-        (head(16, 32, 2, 256, 256), (8, 3, 12)),
+        (head(16, 32, 2, 13, 256), at(8, Kind::Expression, 12)),
+        (head(16, 32, 2, 256, 256), at(8, Kind::Expression, 12)),
         // no expression for the sets
-        (head(0, 1, 2, 0, 256), (4, 4, 1)),
+        (head(0, 1, 2, 0, 256), at(4, Kind::Command, 1)),
     ];
     for (counts, due) in cases {
-        assert_eq!(rt; large(rt.alloc(), counts), due);
+        assert_eq!(rt; large(rt.alloc(), counts)?, due);
     }
+    Ok(())
 }

@@ -1,4 +1,4 @@
-// Records in short, and places as numbers.
+// Records in short, and what refusals tell.
 use records::{Action, Command, Expression, Head, Mode, Operator, Register, State};
 use rules::{Breach, DesignFault, Kind};
 
@@ -114,30 +114,47 @@ pub(crate) const fn head(
 }
 
 pub(crate) fn put<T: Copy>(table: &mut [T], at: usize, record: T) {
-    if at < table.len() {
-        table[at] = record;
+    if let Some(slot) = table.get_mut(at) {
+        *slot = record;
     }
 }
 
-fn kind_number(kind: Kind) -> u32 {
-    match kind {
-        Kind::Port => 0,
-        Kind::Register => 1,
-        Kind::State => 2,
-        Kind::Expression => 3,
-        Kind::Command => 4,
-        Kind::Cell => 5,
-        Kind::Input => 6,
-    }
+// What a refusal tells: its number, and the kind and the record of its place; a needed length stands without a kind.
+#[derive(Clone, Copy, PartialEq, Debug)]
+pub(crate) struct Refusal {
+    pub(crate) number: u32,
+    pub(crate) kind: Option<Kind>,
+    pub(crate) record: u32,
 }
 
-// Number, kind and record of a refusal; a needed length stands in the record's place, without a kind. Nines for any other.
-pub(crate) fn place(fault: DesignFault) -> (u32, u32, u32) {
+pub(crate) const fn at(number: u32, kind: Kind, record: u32) -> Option<Refusal> {
+    Some(Refusal {
+        number,
+        kind: Some(kind),
+        record,
+    })
+}
+
+pub(crate) const fn needs(number: u32, record: u32) -> Option<Refusal> {
+    Some(Refusal {
+        number,
+        kind: None,
+        record,
+    })
+}
+
+// Nines for a fault that no case expects.
+pub(crate) fn refused(fault: DesignFault) -> Refusal {
     let number = fault.number().unwrap_or(9);
-    match fault {
-        DesignFault::ShortTable { kind } => (number, kind_number(kind), 0),
-        DesignFault::Broken(Breach { kind, record, .. }) => (number, kind_number(kind), record),
-        DesignFault::WrongLength { needed } => (number, 0, needed),
-        _ => (9, 9, 9),
+    let (kind, record) = match fault {
+        DesignFault::ShortTable { kind } => (Some(kind), 0),
+        DesignFault::Broken(Breach { kind, record, .. }) => (Some(kind), record),
+        DesignFault::WrongLength { needed } => (None, needed),
+        _ => (None, 9),
+    };
+    Refusal {
+        number,
+        kind,
+        record,
     }
 }

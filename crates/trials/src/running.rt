@@ -1,8 +1,11 @@
 // A small design and its memory: one change for each edge of what a start and a step ask, and a run by turns.
-use crate::parts::{expression, fall, goto, head, place, put, register, set, state, tag};
+use crate::parts::{
+    Refusal, at, expression, fall, goto, head, needs, put, refused, register, set, state, tag,
+};
 use design::{Accepted, accept};
 use machine::{start, step};
-use records::{Labeled, Mode, Operator, Pointer, Port, Report};
+use records::{Cell, Input, Mode, Operator, Pointer, Port, Report};
+use rules::Kind;
 use session::{NotTaken, SessionFault, Turn, Unwritten};
 use shape::Tables;
 use std::alloc::Global;
@@ -12,8 +15,6 @@ use table::Table;
 
 // levels 0, 1 and 2, each flowing to those above it
 const CHAIN: [u32; 3] = [7, 6, 4];
-
-const NONE: (u32, u32, u32) = (0, 0, 0);
 
 // No cycle writes this report.
 const UNTOUCHED: Report = Report {
@@ -56,10 +57,7 @@ fn design(heap: Global) -> Result<Accepted<Table>, Fail> {
             goto(2, None, None),
         ],
     };
-    match accept(heap, lattice, tables) {
-        Ok(design) => Ok(design),
-        Err(fault) => Err(Fail::new(fault)),
-    }
+    Ok(accept(heap, lattice, tables)?)
 }
 
 // How many of each are lent.
@@ -75,18 +73,18 @@ struct Lengths {
 #[derive(Clone, Copy, PartialEq)]
 struct Lent {
     lengths: Lengths,
-    cells: [Labeled<u32>; 4],
+    cells: [Cell; 4],
     pointers: [Pointer; 5],
-    inputs: [Labeled<u32>; 2],
+    inputs: [Input; 2],
     reports: [Report; 9],
 }
 
 // a cell or an input
-const fn of(value: u32, level: u32) -> Labeled<u32> {
-    Labeled { value, level }
+const fn of(value: u32, level: u32) -> Cell {
+    Cell { value, level }
 }
 
-const fn at(value: Option<u32>, level: u32) -> Pointer {
+const fn child(value: Option<u32>, level: u32) -> Pointer {
     Pointer { value, level }
 }
 
@@ -95,9 +93,9 @@ const fn at(value: Option<u32>, level: u32) -> Pointer {
 enum Change {
     Nothing,
     Lengths(Lengths),
-    Cell(usize, Labeled<u32>),
+    Cell(usize, Cell),
     Pointer(usize, Pointer),
-    Input(Labeled<u32>),
+    Input(Input),
 }
 
 const fn lend(cells: usize, pointers: usize, inputs: usize, reports: usize) -> Change {
@@ -114,7 +112,7 @@ const fn cell(j: usize, value: u32, level: u32) -> Change {
 }
 
 const fn pointer(s: usize, value: Option<u32>, level: u32) -> Change {
-    Change::Pointer(s, at(value, level))
+    Change::Pointer(s, child(value, level))
 }
 
 const fn input(value: u32, level: u32) -> Change {
@@ -131,11 +129,11 @@ fn good() -> Lent {
         },
         cells: [of(3, 2), of(5, 2), of(0, 0), of(0, 0)],
         pointers: [
-            at(Some(1), 0),
-            at(Some(2), 0),
-            at(None, 0),
-            at(None, 0),
-            at(None, 0),
+            child(Some(1), 0),
+            child(Some(2), 0),
+            child(None, 0),
+            child(None, 0),
+            child(None, 0),
         ],
         inputs: [of(9, 1); 2],
         reports: [UNTOUCHED; 9],
@@ -162,82 +160,74 @@ fn changed(changes: [Change; 2]) -> Lent {
 
 // The first entries of a table; all of it where there are no more.
 fn first<T>(table: &[T], count: usize) -> &[T] {
-    if count < table.len() {
-        &table[0..count]
-    } else {
-        table
-    }
+    table.get(..count).unwrap_or(table)
 }
 
 fn first_mut<T>(table: &mut [T], count: usize) -> &mut [T] {
-    if count < table.len() {
-        &mut table[0..count]
-    } else {
-        table
-    }
+    let count = count.min(table.len());
+    &mut table[..count]
 }
 
 // The number and the place of a step's refusal, or of none.
-fn stepped(design: &Accepted<Table>, lent: &mut Lent) -> (u32, u32, u32) {
+fn stepped(design: &Accepted<Table>, lent: &mut Lent) -> Option<Refusal> {
     let lengths = lent.lengths;
     let inputs = first(&lent.inputs, lengths.inputs);
     let cells = first_mut(&mut lent.cells, lengths.cells);
     let pointers = first_mut(&mut lent.pointers, lengths.pointers);
     let reports = first_mut(&mut lent.reports, lengths.reports);
-    match step(design, inputs, cells, pointers, reports) {
-        Ok(_) => NONE,
-        Err(fault) => place(fault),
-    }
+    step(design, inputs, cells, pointers, reports)
+        .err()
+        .map(refused)
 }
 
 // A step answers what is due, and changes what it is lent exactly when it is not refused.
-fn check_step(rt: &impl Abort, design: &Accepted<Table>, before: Lent, due: (u32, u32, u32)) {
+fn check_step(rt: &impl Abort, design: &Accepted<Table>, before: Lent, due: Option<Refusal>) {
     let mut lent = before;
     assert_eq!(rt; stepped(design, &mut lent), due);
-    assert_eq!(rt; lent == before, due != NONE);
+    assert_eq!(rt; lent == before, due.is_some());
 }
 
 #[test]
 fn refused_steps(rt: HostRuntime) -> Result<(), Fail> {
     let design = design(rt.alloc())?;
     let cases = [
-        (Change::Nothing, NONE),
+        (Change::Nothing, None),
         // one short and one more
-        (lend(2, 4, 1, 8), (12, 0, 3)),
-        (lend(4, 4, 1, 8), (12, 0, 3)),
-        (lend(3, 3, 1, 8), (12, 0, 4)),
-        (lend(3, 5, 1, 8), (12, 0, 4)),
-        (lend(3, 4, 0, 8), (12, 0, 1)),
-        (lend(3, 4, 2, 8), (12, 0, 1)),
-        (lend(3, 4, 1, 7), (12, 0, 8)),
-        (lend(3, 4, 1, 9), NONE),
+        (lend(2, 4, 1, 8), needs(12, 3)),
+        (lend(4, 4, 1, 8), needs(12, 3)),
+        (lend(3, 3, 1, 8), needs(12, 4)),
+        (lend(3, 5, 1, 8), needs(12, 4)),
+        (lend(3, 4, 0, 8), needs(12, 1)),
+        (lend(3, 4, 2, 8), needs(12, 1)),
+        (lend(3, 4, 1, 7), needs(12, 8)),
+        (lend(3, 4, 1, 9), None),
         // values at the width of their register
-        (cell(1, 15, 2), NONE),
-        (cell(1, 16, 2), (3, 5, 1)),
-        (cell(2, 255, 0), NONE),
-        (cell(2, 256, 0), (3, 5, 2)),
+        (cell(1, 15, 2), None),
+        (cell(1, 16, 2), at(3, Kind::Cell, 1)),
+        (cell(2, 255, 0), None),
+        (cell(2, 256, 0), at(3, Kind::Cell, 2)),
         // levels of cells: at the floor, below it, none; a dynamic register has no floor
-        (cell(0, 3, 1), NONE),
-        (cell(0, 3, 0), (5, 5, 0)),
-        (cell(1, 5, 3), (5, 5, 1)),
-        (cell(2, 0, 2), NONE),
-        (cell(2, 0, 3), (5, 5, 2)),
+        (cell(0, 3, 1), None),
+        (cell(0, 3, 0), at(5, Kind::Cell, 0)),
+        (cell(1, 5, 3), at(5, Kind::Cell, 1)),
+        (cell(2, 0, 2), None),
+        (cell(2, 0, 3), at(5, Kind::Cell, 2)),
         // a grandchild, the state itself, no state, none
-        (pointer(0, Some(2), 0), (5, 2, 0)),
-        (pointer(0, Some(0), 0), (5, 2, 0)),
-        (pointer(1, Some(4), 0), (5, 2, 1)),
-        (pointer(1, None, 0), (5, 2, 1)),
+        (pointer(0, Some(2), 0), at(5, Kind::State, 0)),
+        (pointer(0, Some(0), 0), at(5, Kind::State, 0)),
+        (pointer(1, Some(4), 0), at(5, Kind::State, 1)),
+        (pointer(1, None, 0), at(5, Kind::State, 1)),
         // another child, another level, no level
-        (pointer(1, Some(3), 0), NONE),
-        (pointer(1, Some(2), 2), NONE),
-        (pointer(1, Some(2), 3), (5, 2, 1)),
+        (pointer(1, Some(3), 0), None),
+        (pointer(1, Some(2), 2), None),
+        (pointer(1, Some(2), 3), at(5, Kind::State, 1)),
         // a leaf
-        (pointer(2, Some(3), 0), (5, 2, 2)),
-        (pointer(3, None, 2), NONE),
-        (pointer(3, None, 3), (5, 2, 3)),
+        (pointer(2, Some(3), 0), at(5, Kind::State, 2)),
+        (pointer(3, None, 2), None),
+        (pointer(3, None, 3), at(5, Kind::State, 3)),
         // the value of an input is cut, not refused
-        (input(u32::MAX, 2), NONE),
-        (input(9, 3), (5, 6, 0)),
+        (input(u32::MAX, 2), None),
+        (input(9, 3), at(5, Kind::Input, 0)),
     ];
     for (change, due) in cases {
         check_step(&rt, &design, changed([change, Change::Nothing]), due);
@@ -250,26 +240,29 @@ fn first_of_two(rt: HostRuntime) -> Result<(), Fail> {
     let design = design(rt.alloc())?;
     let cases = [
         // lengths by cells, pointers, inputs and reports, and before all else
-        ([lend(2, 3, 0, 7), cell(0, 16, 2)], (12, 0, 3)),
-        ([lend(3, 3, 0, 7), cell(0, 16, 2)], (12, 0, 4)),
-        ([lend(3, 4, 0, 7), cell(0, 16, 2)], (12, 0, 1)),
-        ([lend(3, 4, 1, 7), cell(0, 16, 2)], (12, 0, 8)),
-        ([lend(3, 4, 2, 8), cell(0, 3, 3)], (12, 0, 1)),
-        ([lend(3, 4, 1, 7), pointer(0, None, 0)], (12, 0, 8)),
-        ([lend(3, 4, 1, 7), input(9, 3)], (12, 0, 8)),
+        ([lend(2, 3, 0, 7), cell(0, 16, 2)], needs(12, 3)),
+        ([lend(3, 3, 0, 7), cell(0, 16, 2)], needs(12, 4)),
+        ([lend(3, 4, 0, 7), cell(0, 16, 2)], needs(12, 1)),
+        ([lend(3, 4, 1, 7), cell(0, 16, 2)], needs(12, 8)),
+        ([lend(3, 4, 2, 8), cell(0, 3, 3)], needs(12, 1)),
+        ([lend(3, 4, 1, 7), pointer(0, None, 0)], needs(12, 8)),
+        ([lend(3, 4, 1, 7), input(9, 3)], needs(12, 8)),
         // values before levels, also of the same cell
-        ([cell(2, 256, 0), cell(0, 3, 0)], (3, 5, 2)),
-        ([cell(0, 16, 3), Change::Nothing], (3, 5, 0)),
-        ([cell(2, 256, 0), pointer(0, None, 0)], (3, 5, 2)),
-        ([cell(2, 256, 0), input(9, 3)], (3, 5, 2)),
+        ([cell(2, 256, 0), cell(0, 3, 0)], at(3, Kind::Cell, 2)),
+        ([cell(0, 16, 3), Change::Nothing], at(3, Kind::Cell, 0)),
+        ([cell(2, 256, 0), pointer(0, None, 0)], at(3, Kind::Cell, 2)),
+        ([cell(2, 256, 0), input(9, 3)], at(3, Kind::Cell, 2)),
         // cells, then pointers, then inputs
-        ([cell(2, 0, 3), pointer(0, None, 0)], (5, 5, 2)),
-        ([cell(2, 0, 3), input(9, 3)], (5, 5, 2)),
-        ([pointer(3, None, 3), input(9, 3)], (5, 2, 3)),
+        ([cell(2, 0, 3), pointer(0, None, 0)], at(5, Kind::Cell, 2)),
+        ([cell(2, 0, 3), input(9, 3)], at(5, Kind::Cell, 2)),
+        ([pointer(3, None, 3), input(9, 3)], at(5, Kind::State, 3)),
         // the lowest of a kind
-        ([cell(2, 256, 0), cell(1, 16, 2)], (3, 5, 1)),
-        ([cell(2, 0, 3), cell(1, 5, 0)], (5, 5, 1)),
-        ([pointer(3, None, 3), pointer(1, None, 0)], (5, 2, 1)),
+        ([cell(2, 256, 0), cell(1, 16, 2)], at(3, Kind::Cell, 1)),
+        ([cell(2, 0, 3), cell(1, 5, 0)], at(5, Kind::Cell, 1)),
+        (
+            [pointer(3, None, 3), pointer(1, None, 0)],
+            at(5, Kind::State, 1),
+        ),
     ];
     for (changes, due) in cases {
         check_step(&rt, &design, changed(changes), due);
@@ -278,27 +271,24 @@ fn first_of_two(rt: HostRuntime) -> Result<(), Fail> {
 }
 
 // The number and the place of a start's refusal, or of none.
-fn started(design: &Accepted<Table>, lent: &mut Lent) -> (u32, u32, u32) {
+fn started(design: &Accepted<Table>, lent: &mut Lent) -> Option<Refusal> {
     let lengths = lent.lengths;
     let cells = first(&lent.cells, lengths.cells);
     let pointers = first_mut(&mut lent.pointers, lengths.pointers);
-    match start(design, cells, pointers) {
-        Ok(()) => NONE,
-        Err(fault) => place(fault),
-    }
+    start(design, cells, pointers).err().map(refused)
 }
 
 // A start answers what is due, and sets the pointers that it is lent exactly when it is not refused.
-fn check_start(rt: &impl Abort, design: &Accepted<Table>, before: Lent, due: (u32, u32, u32)) {
+fn check_start(rt: &impl Abort, design: &Accepted<Table>, before: Lent, due: Option<Refusal>) {
     let mut lent = before;
     assert_eq!(rt; started(design, &mut lent), due);
     let mut after = before;
-    if due == NONE {
+    if due.is_none() {
         after.pointers = [
-            at(Some(1), 0),
-            at(Some(2), 0),
-            at(None, 0),
-            at(None, 0),
+            child(Some(1), 0),
+            child(Some(2), 0),
+            child(None, 0),
+            child(None, 0),
             before.pointers[4],
         ];
     }
@@ -310,27 +300,36 @@ fn starts(rt: HostRuntime) -> Result<(), Fail> {
     let design = design(rt.alloc())?;
     let cases = [
         // whatever the pointers hold, and whatever a step alone is lent
-        ([Change::Nothing, Change::Nothing], NONE),
-        ([pointer(0, Some(2), 3), pointer(1, Some(3), 1)], NONE),
-        ([pointer(2, Some(3), 0), pointer(3, None, 3)], NONE),
-        ([pointer(1, None, 2), pointer(4, Some(9), 9)], NONE),
-        ([lend(3, 4, 0, 0), input(9, 3)], NONE),
+        ([Change::Nothing, Change::Nothing], None),
+        ([pointer(0, Some(2), 3), pointer(1, Some(3), 1)], None),
+        ([pointer(2, Some(3), 0), pointer(3, None, 3)], None),
+        ([pointer(1, None, 2), pointer(4, Some(9), 9)], None),
+        ([lend(3, 4, 0, 0), input(9, 3)], None),
         // lengths first, those of the cells before those of the pointers
-        ([lend(2, 4, 1, 8), pointer(1, Some(3), 1)], (12, 0, 3)),
-        ([lend(4, 4, 1, 8), pointer(1, Some(3), 1)], (12, 0, 3)),
-        ([lend(3, 3, 1, 8), pointer(1, Some(3), 1)], (12, 0, 4)),
-        ([lend(3, 5, 1, 8), pointer(1, Some(3), 1)], (12, 0, 4)),
-        ([lend(2, 3, 1, 8), pointer(1, Some(3), 1)], (12, 0, 3)),
-        ([lend(3, 5, 1, 8), cell(0, 16, 3)], (12, 0, 4)),
+        ([lend(2, 4, 1, 8), pointer(1, Some(3), 1)], needs(12, 3)),
+        ([lend(4, 4, 1, 8), pointer(1, Some(3), 1)], needs(12, 3)),
+        ([lend(3, 3, 1, 8), pointer(1, Some(3), 1)], needs(12, 4)),
+        ([lend(3, 5, 1, 8), pointer(1, Some(3), 1)], needs(12, 4)),
+        ([lend(2, 3, 1, 8), pointer(1, Some(3), 1)], needs(12, 3)),
+        ([lend(3, 5, 1, 8), cell(0, 16, 3)], needs(12, 4)),
         // then values
-        ([cell(1, 15, 2), pointer(1, Some(3), 1)], NONE),
-        ([cell(1, 16, 2), pointer(1, Some(3), 1)], (3, 5, 1)),
-        ([cell(1, 16, 2), cell(0, 3, 0)], (3, 5, 1)),
+        ([cell(1, 15, 2), pointer(1, Some(3), 1)], None),
+        (
+            [cell(1, 16, 2), pointer(1, Some(3), 1)],
+            at(3, Kind::Cell, 1),
+        ),
+        ([cell(1, 16, 2), cell(0, 3, 0)], at(3, Kind::Cell, 1)),
         // then levels
-        ([cell(0, 3, 1), pointer(1, Some(3), 1)], NONE),
-        ([cell(0, 3, 0), pointer(1, Some(3), 1)], (5, 5, 0)),
-        ([cell(0, 3, 3), pointer(1, Some(3), 1)], (5, 5, 0)),
-        ([cell(2, 0, 3), cell(1, 5, 3)], (5, 5, 1)),
+        ([cell(0, 3, 1), pointer(1, Some(3), 1)], None),
+        (
+            [cell(0, 3, 0), pointer(1, Some(3), 1)],
+            at(5, Kind::Cell, 0),
+        ),
+        (
+            [cell(0, 3, 3), pointer(1, Some(3), 1)],
+            at(5, Kind::Cell, 0),
+        ),
+        ([cell(2, 0, 3), cell(1, 5, 3)], at(5, Kind::Cell, 1)),
     ];
     for (changes, due) in cases {
         check_start(&rt, &design, changed(changes), due);
@@ -341,10 +340,7 @@ fn starts(rt: HostRuntime) -> Result<(), Fail> {
 fn first_turn(design: &Accepted<Table>, lent: &mut Lent) -> Result<Turn, Fail> {
     let cells = first(&lent.cells, 3);
     let pointers = first_mut(&mut lent.pointers, 4);
-    match session::start(design, cells, pointers) {
-        Ok(turn) => Ok(turn),
-        Err(fault) => Err(Fail::new(fault)),
-    }
+    session::start(design, cells, pointers).map_err(Fail::new)
 }
 
 // Writes what becomes of a turn: a refusal, which changes nothing, a waiver, or the text of the cycle.
@@ -369,24 +365,28 @@ fn take_turn(
             },
         ) => {
             assert!(rt; *lent == before);
-            let (number, kind, record) = place(fault);
-            write!(text, "refused={number} kind={kind} record={record}\n")?;
+            let told = refused(fault);
+            let kind = told.kind.map_or(0, |kind| kind as u32);
+            writeln!(
+                text,
+                "refused={} kind={kind} record={}",
+                told.number, told.record
+            )?;
             Ok(turn)
         }
         Err(NotTaken { turn: _, fault }) => Err(Fail::new(fault)),
         Ok(owed) if waives => {
             let count = owed.count();
             let turn = owed.waive();
-            write!(text, "waived={count}\n")?;
+            writeln!(text, "waived={count}")?;
             Ok(turn)
         }
-        Ok(owed) => match owed.write_out(text, cycle, &lent.reports, cells, pointers) {
-            Ok(turn) => Ok(turn),
-            Err(Unwritten { owed, fault }) => {
+        Ok(owed) => owed
+            .write_out(text, cycle, &lent.reports, cells, pointers)
+            .map_err(|Unwritten { owed, fault }| {
                 owed.waive();
-                Err(Fail::new(fault))
-            }
-        },
+                Fail::new(fault)
+            }),
     }
 }
 

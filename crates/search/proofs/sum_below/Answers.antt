@@ -10,4 +10,4 @@ pub loop-k-preserved : goal.loop-k-preserved
 unfolding sum_below
 loop-k-preserved g c =
     let f = g.A.Amount.amounts c.args.of.now in
-    (ap₂ (λ (a b : ℕ). a + b) c.loop-k.invariant.0 c.amount.ensures ∙ ap (sum_below f) (sym (add-one c.loop-k.k)), omega arith)
+    (ap₂ (λ (a b : ℕ). a + b) c.loop-k.invariant.0 (c.from-sum.ensures ∙ c.amount.ensures) ∙ ap (sum_below f) (sym (add-one c.loop-k.k)), omega arith)

@@ -4,5 +4,7 @@ use Rattle.rules.specs.Rules.{cells_below}
 use Rattle.shape.specs.View.{view}
 use Rattle.design.proofs.cells.work_out_firsts.Given as goal
 
-abbrev pub invariant-loop-x : goal.invariant-loop-x
-invariant-loop-x l = (vec_items l.firsts ≡ map (cells_below (view l.tables)) (range_with_len 0 l.x)) × (l.first ≡ cells_below (view l.tables) l.x)
+abbrev pub invariant-loop-register : goal.invariant-loop-register
+invariant-loop-register l =
+    (vec_items l.firsts ≡ map (cells_below (view l.formed.tables)) (range_with_len 0 l.register-index))
+    × (l.first ≡ cells_below (view l.formed.tables) l.register-index)

@@ -7,14 +7,14 @@ use Rattle.design.proofs.reaches.work_out_row.Goals as goal
 pub loop-k-init : goal.loop-k-init
 loop-k-init g c = (
   refl,
-  sunk_none 0 c.args.tables.head.commands (reach_node (view c.args.tables) (g.O.Own.own c.args.own.now c.args.s) c.args.falls) 256,
+  sunk_none 0 c.args.formed.tables.head.commands (reach_node (view c.args.formed.tables) (g.O.Own.own c.args.own.now c.args.s) c.args.falls) 256,
 )
 
 pub loop-k-preserved : goal.loop-k-preserved
 loop-k-preserved g c =
-    let n : ℕ = c.args.tables.head.commands in
+    let n : ℕ = c.args.formed.tables.head.commands in
     let own = g.O.Own.own c.args.own.now c.args.s in
-    let node = reach_node (view c.args.tables) own c.args.falls in
+    let node = reach_node (view c.args.formed.tables) own c.args.falls in
     let k : ℕ = c.loop-k.k - 1 in
     let e : c.loop-k.k ≡ suc k = omega arith in
     let worked = c.command_reach.ensures ∙ ap (command_reach own c.args.falls (λ j. get_or c.loop-k.row j 0)) c.command.ensures in
@@ -22,5 +22,5 @@ loop-k-preserved g c =
 
 pub returns : goal.returns
 returns g c =
-    sunk_all 0 c.args.tables.head.commands (reach_node (view c.args.tables) (g.O.Own.own c.args.own.now c.args.s) c.args.falls)
+    sunk_all 0 c.args.formed.tables.head.commands (reach_node (view c.args.formed.tables) (g.O.Own.own c.args.own.now c.args.s) c.args.falls)
     c.loop-k.k c.loop-k.row c.loop-k-test.false c.loop-k.invariant.1

@@ -2,14 +2,14 @@ use Rattle.std.proofs.Common.{◌≡◌, ℕ, ◌<◌, Bool, false, ◌&&◌, �
 use Rattle.rules.specs.Rules.{has_children}
 use Rattle.shape.specs.Shape.{Design, state_at, holds}
 use Rattle.shape.specs.View.{view}
-use Rattle.rules.proofs.Ranking.{held}
+use Rattle.search.proofs.Filling.{held}
 use Rattle.design.specs.Chains.{is_below, is_moved}
 use Rattle.design.proofs.Mapped.{set_same}
 use Rattle.design.proofs.states.work_out_state.Goals as goal
 
 pub returns : goal.returns
 returns c =
-    let d : Design = view c.args.tables in
+    let d : Design = view c.args.formed.tables in
     let s : ℕ = c.args.s in
     let n : ℕ = d.head.states in
     let worked : ℕ → Bool = λ t. get_or c.work_out_below-below.result t false in

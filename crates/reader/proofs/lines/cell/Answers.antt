@@ -1,27 +1,5 @@
-use Rattle.std.proofs.Common.{◌-◌, codes, ap, ◌∙◌}
-use Rattle.reader.specs.Format.{cells}
-use Rattle.reader.proofs.Grammar.{here, later, both, number, last_number, cell_kind, line_exit, line_gives}
+use Rattle.reader.proofs.Grammar.{cell_kind, line_exit}
 use Rattle.reader.proofs.lines.cell.Goals as goal
 
-pub returns-in_err-value : goal.returns-in_err-value
-returns-in_err-value c =
-    let s = c.args.text.now in
-    let left = c.in_err-value.field-0.0 in
-    line_exit cell_kind (λ _. cells c.args.head (c.args.left - 1)) s left c.from_residual.result c.from_residual.ensures.1
-    (here (number (codes "level=")) last_number s left c.in_err-value.ensures)
-
-pub returns-in_err-level : goal.returns-in_err-level
-returns-in_err-level c =
-    let s = c.args.text.now in
-    let left = c.in_err-level.field-0.0 in
-    line_exit cell_kind (λ _. cells c.args.head (c.args.left - 1)) s left c.from_residual-in_err-level.result c.from_residual-in_err-level.ensures.1
-    (later (number (codes "level=")) last_number s left c.in_ok-value.value c.in_ok-value.rest.now c.in_ok-value.ensures
-    c.in_err-level.ensures)
-
-pub returns : goal.returns
-returns c =
-    let s = c.args.text.now in
-    line_gives cell_kind (λ _. cells c.args.head (c.args.left - 1)) s (c.in_ok-value.value, c.in_ok-level.level) c.in_ok-level.rest.now c.cells.result
-    (both (number (codes "level=")) last_number s c.in_ok-value.value c.in_ok-value.rest.now c.in_ok-level.level c.in_ok-level.rest.now c.in_ok-value.ensures
-    c.in_ok-level.ensures)
-    (c.cells.ensures ∙ ap (cells c.args.head) c.saturating_sub.ensures)
+pub returns-in_err-cell : goal.returns-in_err-cell
+returns-in_err-cell c = line_exit cell_kind _ _ _ _ c.from_residual.ensures.1 (c.in_err-cell.ensures)

@@ -1,18 +1,14 @@
-use Rattle.std.proofs.Common.{arith}
-use Rattle.reader.proofs.Shared.{shared_more, shared_ends, shared_differs, shared_all}
+use Rattle.std.proofs.Common.{◌∙◌, eqb, rules, tests}
+use Rattle.std.proofs.lemmas.Iterator.{YieldsList-from_slice, YieldsList-from_zip}
+use Rattle.std.proofs.lemmas.Iterator.Consumers.{count_from_yields_List}
+use Rattle.std.proofs.lemmas.Iterator.Search.{YieldsList-from_take_while}
+use Rattle.reader.proofs.Shared.{shared_zip}
 use Rattle.reader.proofs.pieces.common_len.Goals as goal
-use Rattle.reader.proofs.pieces.common_len.Goals.{then-i-b-via-then-i-b, then-i-b-via-else-i-b+then-b-i}
 
-pub returns-then-i-b : goal.returns-then-i-b
-returns-then-i-b c =
-    elim c.then-i-b.branch [
-      | then-i-b-via-then-i-b w ↦ omega (arith, c.loop-i.invariant, shared_ends c.args.a.now c.args.b.now c.loop-i.i w.if-i-b.true)
-      | then-i-b-via-else-i-b+then-b-i w ↦ omega (arith, c.loop-i.invariant, shared_differs c.args.a.now c.args.b.now c.loop-i.i c.loop-i-test.true w.if-i-b.false w.if-b-i.true)
-    ]
-
-pub loop-i-preserved : goal.loop-i-preserved
-loop-i-preserved c =
-    omega (arith, c.loop-i.invariant, shared_more c.args.a.now c.args.b.now c.loop-i.i c.loop-i-test.true c.if-i-b.false c.if-b-i.false)
-
-pub returns : goal.returns
-returns c = omega (arith, c.loop-i.invariant, shared_all c.args.a.now c.args.b.now c.loop-i.i (omega arith))
+pub returns-clause-count : goal.returns-clause-count
+returns-clause-count c =
+    let a = c.args.a.now in
+    let b = c.args.b.now in
+    count_from_yields_List c.take_while.result _ c.count.ensures.ran
+    (YieldsList-from_take_while _ (λ p. eqb p.0 p.1) (YieldsList-from_zip (YieldsList-from_slice a cc) (YieldsList-from_slice b cc)) c.take_while.ensures.closure c.take_while.ensures.done (λ x r q k. search (rules, tests)))
+    ∙ shared_zip a b

@@ -1,9 +1,10 @@
 use Rattle.std.proofs.Common.{ℕ, ◌+◌, refl, ◌∙◌, arith, length-set}
-use Rattle.rules.proofs.Ranking.{getD_none, bound_more, risen_none, risen_more, risen_all}
+use Rattle.search.proofs.Filling.{holds_none}
+use Rattle.rules.proofs.Ranking.{bound_more, risen_none, risen_more, risen_all}
 use Rattle.rules.proofs.ranks.work_out.Goals as goal
 
 pub loop-k-init : goal.loop-k-init
-loop-k-init g c = (refl, risen_none 0 (g.N.Node.node c.args.nodes.now) 256, λ j. omega (arith, getD_none {T = ℕ} 0 256 j))
+loop-k-init g c = (refl, risen_none 0 (g.N.Node.node c.args.nodes.now) 256, λ j. omega (arith, holds_none {T = ℕ} 0 256 j))
 
 pub loop-k-preserved : goal.loop-k-preserved
 loop-k-preserved g c = (

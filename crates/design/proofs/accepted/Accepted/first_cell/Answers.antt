@@ -1,6 +1,4 @@
-use Rattle.std.proofs.Common.{◌≡◌, ℕ, length, get_or, vec_items, vec_len, sym, ap, ◌∙◌, arith}
-use mathlib.Core.Logic.{∥∥₁_elim}
-use native.Mathlib.Nat.{ℕ_set}
+use Rattle.std.proofs.Common.{◌≡◌, ℕ, length, vec_len, sym, ap, ◌∙◌, arith}
 use Rattle.std.proofs.lemmas.List.FromFn.{length-map-range_with_len}
 use Rattle.rules.specs.Rules.{cells_below}
 use Rattle.shape.specs.Shape.{Design}
@@ -19,16 +17,14 @@ all_cells d f w = f.cells.ok.0 ∙ ap length w.by_cell ∙ length-map-range_with
 pub overflow_cast-cells : goal.overflow_cast-cells
 overflow_cast-cells g c =
     let d : Design = owned c.args.self.now.records in
-    let all : vec_len c.args.self.now.facts.cells ≡ cells_below d d.head.registers = ∥∥₁_elim c.args.self.now.worked (ℕ_set _ _) (all_cells d c.args.self.now.facts) in
+    let all = all_cells d c.args.self.now.facts c.args.self.now.worked in
     let sized = (formed_parts d (formed_none d c.args.self.now.formed)).0 in
     omega (arith, c.len-cells.ensures, all_cells_few d sized d.head.registers (omega arith))
 
 pub returns : goal.returns
 returns g c =
     let d : Design = owned c.args.self.now.records in
-    let f : Facts = c.args.self.now.facts in
     let x : ℕ = c.args.x in
-    let n : ℕ = d.head.registers in
-    let missing : ℕ = c.len-cells.result in
-    c.record_at.ensures ∙ ap (λ xs. get_or xs x missing) c.deref.ensures.value
-    ∙ ∥∥₁_elim c.args.self.now.worked (ℕ_set _ _) (λ w. kept_on (cells_below d) n x missing (vec_items f.firsts) w.by_register (λ l. first_past d c.args.self.now.exact.1 x l ∙ sym (c.len-cells.ensures ∙ all_cells d f w)))
+    let all = all_cells d c.args.self.now.facts c.args.self.now.worked in
+    kept_on (cells_below d) d.head.registers x _ _ _ _ c.record_at.ensures c.deref.ensures.value c.args.self.now.worked.by_register
+    (λ l. first_past d c.args.self.now.exact.1 x l ∙ sym (c.len-cells.ensures ∙ all))

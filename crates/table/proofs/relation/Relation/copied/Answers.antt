@@ -1,10 +1,7 @@
-use Rattle.std.proofs.Common.{refl, ◌∙◌}
-use Rattle.table.proofs.Fill.{filled_all, rows_taken}
+use Rattle.std.proofs.Common.{ap, ◌∙◌}
+use Rattle.table.specs.Rows.{rows_of}
+use Rattle.table.proofs.Fill.{padded, zeros_after}
 use Rattle.table.proofs.relation.Relation.copied.Goals as goal
 
-pub returns : goal.returns
-returns c =
-    record {
-      count = refl;
-      rows = filled_all _ _ _ _ c.loop-i-test.false c.loop-i.auto.i-end c.loop-i.invariant.1 ∙ rows_taken c.args.count c.args.lent.now;
-    }
+pub returns-clause-rows : goal.returns-clause-rows
+returns-clause-rows c = padded _ _ (zeros_after c.args.count 16) ∙ ap rows_of c.copy_from_slice.ensures.after

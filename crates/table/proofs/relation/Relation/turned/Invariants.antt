@@ -1,7 +1,7 @@
 use Rattle.std.proofs.Common.{◌≡◌, length}
 use Rattle.table.specs.Rows.{rows_of, column}
-use Rattle.table.proofs.Fill.{Filled}
+use Rattle.search.proofs.Filling.{Filled}
 use Rattle.table.proofs.relation.Relation.turned.Given as goal
 
 abbrev pub invariant-loop-j : goal.invariant-loop-j
-invariant-loop-j l = (length l.rows ≡ 16) × Filled (λ k. column (rows_of l.self.rows) k l.self.count) l.j l.rows
+invariant-loop-j l = (length l.rows ≡ 16) × Filled 0 (λ k. column (rows_of l.self.rows) k l.self.count) l.j l.rows

@@ -1,0 +1,12 @@
+use Rattle.std.proofs.Common.{rules}
+use Rattle.design.specs.Model.{owned}
+use Rattle.actions.proofs.Changing.{change_none}
+use Rattle.actions.proofs.Leaving.{kept_moved}
+use Rattle.actions.proofs.board.Board.move_pointers.Goals as goal
+
+pub returns-clause-moved : goal.returns-clause-moved
+returns-clause-moved g c =
+    let left = change_none _ _ _ _ _ _ _ c.loop-t.invariant.left c.in-None.ensures.steps.0 in
+    let design = c.args.self.now.design.now in
+    let kept = kept_moved (owned design.records) design.formed design.exact.2 c.args.s in
+    search rules
