@@ -32,6 +32,7 @@ fn shown<L: Lattice>(lattice: &L, old: Cell, level: u32) -> u32
     }
 }
 
+// A context and alt's reach are passed on apart, since each is used by itself.
 impl<L: Lattice> Board<'_, '_, L> {
     // The level of an enforced state bounds the context in which it is entered.
     fn admits(&self, t: u32, k: u32) -> bool

@@ -6,7 +6,8 @@ ghost use Rattle.actions.specs.Lent.{seen, SameLenders};
 use records::{Cell, Pointer};
 use shape::record_at;
 
-// The cells of all registers and the pointers of all states, as a cycle is lent them.
+// The cells of all registers and the pointers of all states, as a cycle is lent them. A contract says beside what is seen
+// that the same memory is lent still: it is said of two values, so that no field can say it.
 #[derive(Drop)]
 pub struct Memory<'a> {
     pub cells: &'a mut [Cell],

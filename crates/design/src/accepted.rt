@@ -112,7 +112,7 @@ impl<L> Accepted<L> {
         record_at(&self.facts.firsts, x, cells)
     }
 
-    // The register of cell j; past the last cell, the number of registers.
+    // The register of cell j; past the last cell, the number of registers, as the definition gives it: this cannot fail.
     pub fn register_of(&self, j: u32) -> u32
         ensures { result ≡ register_of (owned self.now.records) j }
     {

@@ -20,6 +20,7 @@ struct Registers<'a> {
     formed: Formed<'a>,
 }
 
+// A match, since of `filter` and `map_or` it is not found that the shift fits.
 fn set_register(formed: Formed<'_>, x: Option<u32>) -> u32
     ensures { result ≡ set_register (view formed.entry.tables) x }
 {

@@ -1,4 +1,5 @@
-// What an accepted design keeps beside its records, worked out once. Sets are bits: number t is in a set when bit t is set.
+// What an accepted design keeps beside its records, worked out once, each list by a contract as the library gives it of a
+// chain that is collected. Sets are bits: number t is in a set when bit t is set.
 ghost use Rattle.std.specs.Prelude.{IfOk};
 ghost use Rattle.shape.specs.View.{view};
 ghost use Rattle.design.specs.Facts.{WorkedOut};

@@ -2,6 +2,7 @@
 ghost use Rattle.std.specs.Prelude.{◌≡◌, ℕ, ◌<◌, false, if◌then◌else◌, nat_eq, nat_lt, slice_index, slice_index_or};
 ghost use Rattle.records.specs.declared.Command.{Command as CommandRecord};
 ghost use Rattle.shape.specs.Shape.{is_if, owner_of};
+ghost use Rattle.rules.specs.Tables.{HoldsBelow};
 ghost use Rattle.shape.specs.View.{view};
 ghost use Rattle.design.specs.Chains.{is_fall, reach, chain_at};
 ghost use Rattle.design.specs.Reaches.{link_reach, command_reach, row_reach};
@@ -10,12 +11,12 @@ use crate::formed::Formed;
 use crate::sets::{union_below, union_of};
 use crate::states::{Below, MOST_STATES, work_out_below};
 use records::{Action, Command};
-use rules::MOST_RECORDS;
+use rules::{MOST_RECORDS, Numbers};
 use search::Amount;
 use shape::{is_if, record_at};
 
-// A set for each command, empty past the last. An array, as the owners that the rules work out, with which it goes.
-pub(crate) type Row = [u32; MOST_RECORDS];
+// A set for each command, empty past the last. An array of its limit, so that working it out cannot fail.
+pub(crate) type Row = Numbers;
 
 // What a command in state s reaches by itself. A trait and no closure, so that its meaning is stated and proved once, and not
 // at each call that passes it on.
@@ -65,9 +66,9 @@ fn command_reach<O: Own>(own: &O, row: &Row, s: u32, command: Command, falls: u3
     ])
 }
 
-// The reach from each command on, as a command of state s.
+// The reach from each command on, as a command of state s. A loop as that of `rules`' `work_out`, and the other way.
 fn work_out_row<O: Own>(own: &O, formed: Formed<'_>, s: u32, falls: u32) -> Row
-    ensures { (k : ℕ) → slice_index result k ≡ (if nat_lt k formed.entry.tables.head.commands then row_reach (view formed.entry.tables) (O.Own.own own.now s) falls k else 0) }
+    ensures { HoldsBelow 0 formed.entry.tables.head.commands (row_reach (view formed.entry.tables) (O.Own.own own.now s) falls) result }
 {
     let tables = formed.tables;
     let mut row = [0; MOST_RECORDS];
@@ -98,18 +99,19 @@ impl Amount for Falls<'_, '_> {
     }
 }
 
-// Puts the reaches of the commands of state s, as their row has them. By index: with `array::from_fn` the proof did not close.
+// Puts the reaches of the commands of state s, as their row has them. By place, since three tables go together.
 fn put_own(reaches: &mut Row, row: &Row, owners: &Row, s: u32)
     ensures { (k : ℕ) → k < 256 → slice_index reaches.new k ≡ (if nat_eq (slice_index owners.now k) s then slice_index row.now k else slice_index reaches.old k) }
 {
-    for k in 0..MOST_RECORDS {
+    for (k, reach) in reaches.iter_mut().enumerate() {
         if owners[k] == s {
-            reaches[k] = row[k];
+            *reach = row[k];
         }
     }
 }
 
-// The reach of the chain from each command on. A state comes after the states below it, whose chains its falls reach.
+// The reach of the chain from each command on. A loop that goes down, since the falls of a state read the reaches of the
+// states below it.
 pub(crate) fn work_out_reaches<O: Own>(own: &O, formed: Formed<'_>, owners: &Row) -> Row
     requires { (k : ℕ) → k < formed.tables.head.commands → slice_index owners.now k ≡ owner_of (view formed.tables) k }
     ensures { (k : ℕ) → k < formed.entry.tables.head.commands → slice_index result k ≡ reach formed.entry.tables.head.states (O.Own.own own.now) (chain_at (view formed.entry.tables) (owner_of (view formed.entry.tables) k) k) }

@@ -1,6 +1,7 @@
 // What is worked out of each state.
 ghost use Rattle.std.specs.Prelude.{◌≡◌, ℕ, ◌≤◌, false, map, get_or, IfOk, if◌then◌else◌, nat_lt, slice_index_or};
 ghost use Rattle.std.specs.List.{range_with_len};
+ghost use Rattle.rules.specs.Tables.{HoldsBelow};
 ghost use Rattle.shape.specs.View.{view};
 ghost use Rattle.design.specs.Chains.{under, is_below, is_moved, lowest_child};
 ghost use Rattle.design.specs.Facts.{state_facts};
@@ -15,7 +16,7 @@ use std::alloc::{AllocError, Global};
 
 pub(crate) const MOST_STATES: usize = 32;
 
-// Which states are in a set; an array, since each is worked out of those before it.
+// Which states are in a set. An array of its limit, so that working it out cannot fail.
 pub(crate) type Below = [bool; MOST_STATES];
 
 // A state with this parent is below state s.
@@ -25,9 +26,9 @@ fn is_under(below: &Below, s: u32, parent: Option<u32>) -> bool
     parent.is_some_and(|p| (p == s) | record_at(below, p, false))
 }
 
-// Which states are below state s.
+// Which states are below state s. A loop as that of `rules`' `work_out`, of truths.
 pub(crate) fn work_out_below(formed: Formed<'_>, s: u32) -> Below
-    ensures { (t : ℕ) → slice_index_or result t false ≡ (if nat_lt t formed.entry.tables.head.states then is_below (view formed.entry.tables) s t else false) }
+    ensures { HoldsBelow false formed.entry.tables.head.states (is_below (view formed.entry.tables) s) result }
 {
     let tables = formed.tables;
     let mut below = [false; MOST_STATES];

@@ -1,4 +1,5 @@
-// Starts and steps over lent memory.
+// Starts and steps over lent memory. They take the slices as a caller has them: a struct of all would be made only to be taken
+// apart. Each clause names the verdict in full, so that it can be read by itself.
 ghost use Rattle.std.specs.Prelude.{◌≡◌, ◌≤◌, length, None};
 ghost use Rattle.rules.specs.Faults.{refusal};
 ghost use Rattle.design.specs.Model.{owned};

@@ -1,4 +1,5 @@
-// What is printed of a run, appended to a text that is lent.
+// What is printed of a run, appended to a text that is lent. A cycle is lent in slices, as to a step: a struct of them would
+// be made only to be taken apart.
 #![tactic(auto)]
 
 ghost use Rattle.std.specs.Prelude.{◌≡◌, ◌++◌, string_bytes, OnOk};

@@ -48,6 +48,7 @@ impl<'a> Reader<'a> {
     pub fn read_line(&mut self) -> Result<Line, LineFault>
         ensures { Answered self.old result self.new }
     {
+        // A match: with `map_err` and `?` the proof that the reader's numbers fit did not close.
         match lines::due(self.section, self.rest) {
             Ok((step, rest)) => {
                 self.rest = rest;

@@ -4,7 +4,8 @@ ghost use Rattle.std.specs.Prelude.{◌≡◌, ℕ, ◌+◌, ◌-◌, ◌*◌, �
 ghost use Rattle.reader.specs.Format.{Optional, optional};
 ghost use Rattle.reader.specs.Pieces.{shared, Reads, Strips, Extends, Longest, Parting, Listed};
 
-// The error is one count, and no struct: each reader would only take it out again.
+// The error is one count, and no struct: each reader would only take it out again. So it is with a text and what comes after a
+// piece: each call gives another.
 pub(crate) type Read<'a, T> = Result<(T, &'a [u8]), usize>;
 
 // How many bytes `a` and `b` share from their beginnings.

@@ -6,7 +6,7 @@ ghost use Rattle.shape.specs.Shape.{depth_node, height_node, operand};
 ghost use Rattle.shape.specs.View.{view};
 
 use crate::faults::{Breach, Kind, Rule};
-use crate::ranks::{MOST_RECORDS, Node, work_out};
+use crate::ranks::{Node, Numbers, work_out};
 use crate::sizes::Counted;
 use crate::sweeps::sweep;
 use records::Operator;
@@ -28,7 +28,7 @@ impl Node for Depth<'_> {
 
     ghost base = { λ _. 0 };
 
-    fn value(&self, done: &[u32; MOST_RECORDS], s: u32) -> u32 {
+    fn value(&self, done: &Numbers, s: u32) -> u32 {
         self.tables
             .state(s)
             .parent
@@ -37,7 +37,7 @@ impl Node for Depth<'_> {
 }
 
 // How deep an operand is, 0 where there is none.
-fn operand_height(done: &[u32; MOST_RECORDS], field: Option<u32>) -> u32
+fn operand_height(done: &Numbers, field: Option<u32>) -> u32
     ensures { result ≡ operand (λ j. slice_index done.now j) field }
 {
     field.map_or(0, |k| record_at(done, k, 0))
@@ -54,7 +54,7 @@ impl Node for Height<'_> {
 
     ghost base = { λ _. 0 };
 
-    fn value(&self, done: &[u32; MOST_RECORDS], k: u32) -> u32 {
+    fn value(&self, done: &Numbers, k: u32) -> u32 {
         let x = self.tables.expression(k);
         match x.op {
             Operator::Constant | Operator::Input => 1,
@@ -67,7 +67,7 @@ impl Node for Height<'_> {
 // The records whose number is above a limit.
 #[derive(Drop)]
 struct Above<'a> {
-    numbers: &'a [u32; MOST_RECORDS],
+    numbers: &'a Numbers,
     most: u32,
 }
 

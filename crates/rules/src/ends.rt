@@ -40,14 +40,12 @@ fn is_final(ends: &Ends, command: Command) -> bool
 fn is_chain_ending(ends: &Ends, command: Command) -> bool
     ensures { result ≡ chain_ends (λ j. get_or ends.now j false) command }
 {
-    if command.next.is_some() {
-        is_branch_ending(ends, command.next)
-    } else {
-        is_final(ends, command)
-    }
+    command
+        .next
+        .map_or_else(|| is_final(ends, command), |k| record_at(ends, k, false))
 }
 
-// Whether the chain from each command on ends.
+// Whether the chain from each command on ends. A loop, since each is worked out of those after it.
 fn work_out_ends(counted: Counted<'_>) -> Ends
     ensures { (k : ℕ) → slice_index_or result k false ≡ ends_of (view counted.entry.tables) k }
 {

@@ -15,6 +15,6 @@ mod verdict;
 
 pub use faults::{Breach, DesignFault, Kind, Rule};
 pub use places::{ChildOf, owners};
-pub use ranks::MOST_RECORDS;
+pub use ranks::{MOST_RECORDS, Numbers};
 pub use sweeps::sweep;
 pub use verdict::check;

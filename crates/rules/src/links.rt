@@ -77,6 +77,7 @@ fn is_expression_linked(tables: &Tables<'_>, k: u32) -> bool
 fn is_cell_named(tables: &Tables<'_>, command: Command) -> bool
     ensures { result ≡ cell_named (view tables.now) command }
 {
+    // A `let`, since of a closure it is not found what it answers.
     let Some(x) = command.x else {
         return false;
     };

@@ -5,7 +5,7 @@ ghost use Rattle.rules.specs.Faults.{rule_number, refusal};
 use crate::faults::{DesignFault, Rule};
 
 impl Rule {
-    // The number of a refusal by the rule, which is not the place of the rule among the others.
+    // The number of a refusal by the rule. A method, since a conversion into a number would not say which.
     pub fn number(&self) -> u32
         ensures { result ≡ rule_number self.now }
     {

@@ -1,12 +1,13 @@
 // Rule 6: where commands stand.
-ghost use Rattle.std.specs.Prelude.{◌≡◌, ℕ, ◌≤◌, min, not, if◌then◌else◌, nat_lt, slice_index};
+ghost use Rattle.std.specs.Prelude.{◌≡◌, ℕ, ◌≤◌, min, not, slice_index};
 ghost use Rattle.shape.specs.Shape.{is_first, links_to, links, alike, is_child, owner_node, owner_of};
 ghost use Rattle.rules.specs.Faults.{broke};
+ghost use Rattle.rules.specs.Tables.{HoldsBelow};
 ghost use Rattle.rules.specs.Rules.{enforced_register, enforced_state, goto_placed, action_placed, has_check, command_placed, placed};
 ghost use Rattle.shape.specs.View.{view};
 
 use crate::faults::{Breach, Kind, Rule};
-use crate::ranks::{MOST_RECORDS, Node, work_out};
+use crate::ranks::{MOST_RECORDS, Node, Numbers, work_out};
 use crate::sizes::Counted;
 use crate::sweeps::sweep;
 use records::{Action, Command};
@@ -62,21 +63,22 @@ impl Node for Owner<'_> {
 
     ghost base = { λ _. 4294967295 };
 
-    fn value(&self, done: &[u32; MOST_RECORDS], k: u32) -> u32 {
+    fn value(&self, done: &Numbers, k: u32) -> u32 {
         let tables = self.tables;
         if let Some(state) = first_below(&IsFirst { tables, k }, tables.head.states) {
             return state;
         }
+        // Where no command does, the number of its own place is read, as the definition does.
         let named_by = first_below(&LinksTo { tables, k }, k).unwrap_or(k);
         record_at(done, named_by, 0)
     }
 }
 
 // The states of the commands, of the first 256; 0 past the last command.
-pub fn owners(tables: Tables<'_>) -> [u32; MOST_RECORDS]
-    ensures { (k : ℕ) → slice_index result k ≡ (if nat_lt k (min tables.entry.head.commands 256) then owner_of (view tables.entry) k else 0) }
+pub fn owners(tables: Tables<'_>) -> Numbers
+    ensures { HoldsBelow 0 (min tables.entry.head.commands 256) (owner_of (view tables.entry)) result }
 {
-    let count = tables.head.commands.min(256);
+    let count = tables.head.commands.min(MOST_RECORDS as u32);
     work_out(&Owner { tables }, count)
 }
 
@@ -151,7 +153,7 @@ fn has_check(tables: &Tables<'_>, command: Command) -> bool
 #[derive(Drop)]
 struct Misplaced<'a, 'b> {
     tables: Tables<'a>,
-    owners: &'b [u32; MOST_RECORDS],
+    owners: &'b Numbers,
 }
 
 impl Test for Misplaced<'_, '_> {

@@ -6,7 +6,8 @@ ghost use Rattle.search.specs.First.{lowest_below};
 ghost use Rattle.search.specs.Sum.{sum_below};
 
 // A test of numbers, as of the records of a table by their places. A trait and not a closure, since a function that calls a
-// closure requires that it may, and no public function has a `requires`.
+// closure requires that it may, and no public function has a `requires`; and what a chain answers by a closure, as `any`, each
+// place would have to prove anew.
 pub trait Test {
     ghost test: { Self → ℕ → Bool };
 
@@ -21,7 +22,7 @@ pub fn first_below<T: Test>(test: &T, count: u32) -> Option<u32>
     (0..count).find(|k| test.passes(*k))
 }
 
-// An amount for each number, as for the records of a table by their places.
+// An amount for each number, as for the records of a table by their places. A trait, as `Test` is.
 pub trait Amount {
     ghost amounts: { Self → ℕ → ℕ };
 

@@ -1,4 +1,5 @@
-// Reports that are owed: written out or waived.
+// Reports that are owed: written out or waived. What is printed is lent in slices, as to a step: a
+// struct of them would be made only to be taken apart.
 ghost use Rattle.std.specs.Prelude.{◌≡◌, ◌++◌, take, is_ok, if◌then◌else◌, string_bytes};
 ghost use Rattle.output.specs.Printed.{cycle_text};
 ghost use Rattle.session.specs.Turns.{Written, the_turn};

@@ -1,4 +1,4 @@
-// Starts and steps by turns.
+// Starts and steps by turns. They take slices, and name the verdict in each clause, as `machine` does.
 ghost use Rattle.std.specs.Prelude.{◌≡◌, ◌≤◌, length, None};
 ghost use Rattle.design.specs.Model.{owned};
 ghost use Rattle.actions.specs.Memory.{memory_of};

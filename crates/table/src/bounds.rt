@@ -51,7 +51,7 @@ impl Relation {
         )
     }
 
-    // The level that flows to every level, or the count where there is none, as in no lattice.
+    // The level that flows to every level. In a lattice there is one; else it gives the count, as the definition does.
     pub(crate) fn least(&self) -> u32
         ensures { result ≡ least_of self.now.count (rows_of self.now.rows) }
     {
@@ -107,7 +107,8 @@ impl Bounds<'_> {
         first_below(self, self.order.count)
     }
 
-    // The lowest level with which level a lacks a bound, or the count.
+    // The lowest level with which level a lacks a bound. It is asked of one that lacks some; of another it gives the count, as
+    // the definition does.
     pub(crate) fn first_lacked(&self, a: u32) -> u32
         ensures { result ≡ lacked self.now.order.now.count (rows_of self.now.order.now.rows) (rows_of self.now.turned.now.rows) a }
     {

@@ -101,6 +101,7 @@ impl Lattice for Table {
 
     fn join(&self, a: u32, b: u32) -> u32 {
         if self.is_level(a) & self.is_level(b) {
+            // In a lattice there is always one; the definition gives the count for none.
             let join = self.relation.least_above(a, b);
             join.unwrap_or(self.relation.count)
         } else {
@@ -110,6 +111,7 @@ impl Lattice for Table {
 
     fn meet(&self, a: u32, b: u32) -> u32 {
         if self.is_level(a) & self.is_level(b) {
+            // As with joins.
             let meet = self.relation.turned().least_above(a, b);
             meet.unwrap_or(self.relation.count)
         } else {

@@ -56,6 +56,7 @@ impl Relation {
         all
     }
 
+    // The relation turned round. A loop, since j is a level, whose column is its row.
     pub(crate) fn turned(&self) -> Relation
         ensures count { result.count ≡ self.now.count }
         ensures rows { rows_of result.rows ≡ columns self.now.count (rows_of self.now.rows) }

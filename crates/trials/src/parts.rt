@@ -143,7 +143,7 @@ pub(crate) const fn needs(number: u32, record: u32) -> Option<Refusal> {
     })
 }
 
-// Nines for a fault that no case expects.
+// A record of nine for a fault that no case expects.
 pub(crate) fn refused(fault: DesignFault) -> Refusal {
     let number = fault.number().unwrap_or(9);
     let (kind, record) = match fault {

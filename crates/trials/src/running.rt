@@ -69,7 +69,7 @@ struct Lengths {
     reports: usize,
 }
 
-// One more of each than the design needs.
+// One more of each than the design needs, and lengths beside them, since a case lends one less or one more than is due.
 #[derive(Clone, Copy, PartialEq)]
 struct Lent {
     lengths: Lengths,
