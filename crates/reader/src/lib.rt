@@ -48,22 +48,14 @@ impl<'a> Reader<'a> {
     pub fn read_line(&mut self) -> Result<Line, LineFault>
         ensures { Answered self.old result self.new }
     {
-        // A match: with `map_err` and `?` the proof that the reader's numbers fit did not close.
-        match lines::due(self.section, self.rest) {
-            Ok((step, rest)) => {
-                self.rest = rest;
-                self.line += u32::from(!step.line.is_end());
-                self.section = step.next;
-                Ok(step.line)
-            }
-            Err(left) => {
-                let byte = self.rest.len() - left + 1;
-                Err(LineFault::NotDue {
-                    line: self.line,
-                    byte: byte as u32,
-                })
-            }
-        }
+        let (step, rest) = lines::due(self.section, self.rest).map_err(|left| LineFault::NotDue {
+            line: self.line,
+            byte: (self.rest.len() - left + 1) as u32,
+        })?;
+        self.rest = rest;
+        self.line += u32::from(!step.line.is_end());
+        self.section = step.next;
+        Ok(step.line)
     }
 }
 
