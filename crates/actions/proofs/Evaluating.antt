@@ -1,5 +1,6 @@
 -- What an expression is worth, from what its operands are. Assumes nothing.
-use Rattle.std.proofs.Common.{[], ◌∷◌, ◌≡◌, ℕ, suc, Bool, true, false, cond, ltb, List, Some, None, fold, Option, unwrap_or, sym, refl, ap, ◌∙◌, arith}
+use Rattle.std.proofs.Common.{[], ◌∷◌, ◌≡◌, ℕ, suc, ◌<◌, Bool, true, false, cond, ltb, List, Some, None, fold, Option, unwrap_or, sym, refl, ap, ◌∙◌, arith}
+use Rattle.std.proofs.lemmas.Bool.{cond-true, lt-ltb}
 use Rattle.std.proofs.lemmas.Option.{none-some}
 use Rattle.std.proofs.lemmas.List.Sums.{fold-append}
 use Rattle.lattice.specs.Folds.{joined}
@@ -10,7 +11,7 @@ use Rattle.records.specs.declared.Operator.{Operator}
 use Rattle.records.specs.declared.Operator.TheVariants.{Constant, Input, Read}
 use Rattle.shape.specs.Shape.{Design, port_at, expression_at}
 use Rattle.rules.proofs.Ranking.{ranked_is}
-use Rattle.actions.specs.Formulas.{Formula, constant, input, read, apply, operand, applied_as, formula_as, formula_node, formula_at, formula_below, named_below, input_at, read_at, value_of, leaf_levels}
+use Rattle.actions.specs.Formulas.{Formula, constant, input, read, apply, operand, applied_as, formula_as, formula_node, formula_at, formula_of, formula_below, named_below, input_at, read_at, value_of, leaf_levels}
 use Rattle.actions.specs.Memory.{labeled}
 use Rattle.actions.specs.Values.{applied, cut}
 
@@ -55,6 +56,11 @@ module _ (d : Design) where
   pub closed : (bound : ℕ) (e : Option ℕ) → named_below bound e ≡ None → operand (formula_below d bound) e ≡ constant 0
   closed bound None h = refl
   closed bound (Some j) h = shut (ltb j bound) j h
+
+  -- every expression of 32 bits is below 2 ^ 32
+  pub all_below : (e : Option ℕ) → ((n : ℕ) → e ≡ Some n → n < 4294967296) → operand (formula_below d 4294967296) e ≡ formula_of d e
+  all_below None h = refl
+  all_below (Some n) h = cond-true (ltb n 4294967296) (formula_at d n) (constant 0) (lt-ltb n 4294967296 (h n refl))
 
 module _ (d : Design) (inputs cells : List (Labeled ℕ)) (m : Joins) where
   -- the value, and a level joined with those of the leaves

@@ -1,5 +1,5 @@
 -- What is kept of states, past the last state too. Assumes nothing.
-use Rattle.std.proofs.Common.{◌≡◌, ℕ, zero, suc, ◌+◌, ◌<◌, ◌≤◌, Bool, true, false, cond, not, ◌&&◌, ◌||◌, eqb, ltb, map, length, is_some, None, Option, sym, refl, ap, ◌∙◌, ⊎_elim, arith}
+use Rattle.std.proofs.Common.{◌≡◌, ℕ, zero, suc, ◌+◌, ◌<◌, ◌≤◌, Bool, true, false, cond, not, ◌&&◌, ◌||◌, eqb, ltb, map, length, None, Option, sym, refl, ap, ◌∙◌, ⊎_elim, arith}
 use Rattle.std.specs.List.{range_with_len}
 use Rattle.std.proofs.lemmas.List.{get_or_past}
 use Rattle.std.proofs.lemmas.Bool.Decides.{nat_tests}
@@ -9,15 +9,11 @@ use Rattle.rules.specs.Rules.{names, linked, has_children}
 use Rattle.shape.specs.Shape.{Design, state_at, no_state, holds, given, is_child}
 use Rattle.design.specs.Chains.{lowest_child, moved, is_moved, is_below, union}
 use Rattle.design.specs.Facts.{state_kept, state_facts}
-use Rattle.design.proofs.Kept.{formed_none, formed_parts, states_linked}
-use Rattle.design.specs.Verdict.{well_formed}
+use Rattle.design.proofs.Kept.{states_linked}
 use Rattle.design.proofs.Mapped.{set_same}
 use Rattle.design.proofs.Reaching.{below_after}
 
-module _ (d : Design) (formed : is_some (well_formed d) ≡ false) where
-  links : linked d ≡ None
-  links = (formed_parts d (formed_none d formed)).1
-
+module _ (d : Design) (links : linked d ≡ None) where
   abbrev n : ℕ
   n = d.head.states
 
@@ -45,8 +41,8 @@ none_of : (h e p b : Bool) → e ≡ false → p ≡ false → b ≡ false → (
 none_of h e p b x y z = grind (arith, x, y, z)
 
 -- a state past the last is above none, so a goto there moves nothing
-pub kept_moved : (d : Design) → is_some (well_formed d) ≡ false → length d.states ≡ d.head.states → (s : ℕ) → (state_kept d s).moved ≡ moved d s
-kept_moved d formed exact s =
+pub kept_moved : (d : Design) → linked d ≡ None → length d.states ≡ d.head.states → (s : ℕ) → (state_kept d s).moved ≡ moved d s
+kept_moved d links exact s =
     ⊎_elim (λ l. ap (λ f. f.moved) (kept_state d s l))
     (λ l. rw (le-ltb s n l) (sym (set_same (is_moved d s (is_below d s)) (λ _. false) n (none l) ∙ no_sets 0 n))) (cases_lt s n)
   where
@@ -60,4 +56,4 @@ kept_moved d formed exact s =
       where
         by : (b : Bool) → is_below d s t ≡ b → b ≡ false
         by false e = refl
-        by true e = absurd (omega (arith, below_after d (formed_parts d (formed_none d formed)).1 s t m e))
+        by true e = absurd (omega (arith, below_after d links s t m e))

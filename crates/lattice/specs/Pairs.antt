@@ -1,5 +1,5 @@
 -- A lattice of pairs, and a lattice turned round. Assumes nothing.
-use Rattle.std.specs.Prelude.{ℕ, ◌+◌, ◌*◌, ◌/◌, ◌%◌, ◌^◌, Bool, true, false, cond, ◌&&◌, [], ◌∷◌, None, Option, ◌==◌, nat_le}
+use Rattle.std.specs.Prelude.{◌≡◌, ℕ, ◌+◌, ◌*◌, ◌/◌, ◌%◌, ◌^◌, ◌<◌, ◌≤◌, Bool, true, false, cond, ◌&&◌, [], ◌∷◌, Some, None, Option, ◌==◌, nat_le}
 use Rattle.lattice.specs.Faults.{Refusal, refuse}
 use Rattle.lattice.specs.Model.{Joins, Model, strict, turned}
 
@@ -70,6 +70,11 @@ pair_if false l r = single
 
 abbrev pub pair_model : Model → Model → Model
 pair_model l r = pair_if (narrow l.joins r.joins) l r
+
+-- how far the left part stands to the left, where the parts fit together; and which lattice that makes
+abbrev pub Shift : Model → Model → Option ℕ → Type 0
+Shift l r None = pair_model l r ≡ single
+Shift l r (Some w) = (w ≡ r.joins.width) × (l.joins.width + w ≤ 32) × (w < 32) × (pair_model l r ≡ product l r)
 
 -- the order turned round: bottom and top change places, and so do join and meet
 abbrev pub reversed : Model → Model

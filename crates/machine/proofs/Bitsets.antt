@@ -1,13 +1,14 @@
--- Which bits a union and a set by a test have. Assumes nothing.
+-- Which bits a union and a set by a test have, and that unions and reaches fit 32 bits. Assumes nothing.
 use Rattle.std.proofs.Common.{◌≡◌, ℕ, zero, suc, ◌+◌, ◌^◌, ◌<◌, ◌≤◌, Bool, true, false, cond, ◌&&◌, ◌||◌, eqb, ltb, leb, List, [], ◌∷◌, map, fold, sym, ap, ◌∙◌, arith, pow_pos}
 use lib.Bits.{bit_or, or_lt}
 use Rattle.std.specs.List.{range_with_len, AllByRecursion}
 use Rattle.std.proofs.lemmas.Nat.{pow_below}
-use Rattle.std.proofs.lemmas.Bool.{and_from, lt-ltb, cond-true, cond_both}
+use Rattle.std.proofs.lemmas.Bool.{and_from, and_parts, lt-ltb, ltb-true, cond-true, cond_both}
 use Rattle.std.proofs.lemmas.Bool.Decides.{nat_tests}
 use Rattle.lattice.specs.Bit.{bit}
 use Rattle.lattice.specs.Sets.{set_of, owners_joins}
-use Rattle.design.specs.Chains.{union, set_where}
+use Rattle.records.specs.declared.Command.{Command}
+use Rattle.design.specs.Chains.{Chain, stop, run, union, set_where, reach}
 use Rattle.lattice.specs.Bits.{bit_of_or, bit_power, bit_zero}
 
 -- a set of numbers below 32
@@ -40,8 +41,23 @@ folded_bit start (x ∷ xs) s h t =
     ∙ ap (λ b. b || any_bit xs t) (bit_of_or start x t)
     ∙ or_assoc (bit start t) (bit x t) (any_bit xs t)
 
+-- a join is 0 where a code is no set, so it always fits
+join_fits : (a b : ℕ) → Small (join a b)
+join_fits a b = cond_both (set_of 32 a && set_of 32 b) (bit_or a b) 0 Small sets (λ _. pow_pos 32)
+  where
+    sets : (set_of 32 a && set_of 32 b) ≡ true → Small (bit_or a b)
+    sets e = let both = and_parts (set_of 32 a) (set_of 32 b) e in or_lt 32 a b (ltb-true a (2 ^ 32) both.0) (ltb-true b (2 ^ 32) both.1)
+
+folded_fits : (start : ℕ) (xs : List ℕ) → Small start → Small (fold join start xs)
+folded_fits start [] s = s
+folded_fits start (x ∷ xs) s = folded_fits (join start x) xs (join_fits start x)
+
 pub union_bit : (xs : List ℕ) → AllByRecursion (λ x. x < 2 ^ 32) xs → (t : ℕ) → bit (union xs) t ≡ any_bit xs t
 union_bit xs h t = folded_bit 0 xs (pow_pos 32) h t ∙ ap (λ b. b || any_bit xs t) (bit_zero t)
+
+-- any union fits, of whatever numbers
+pub union_fits : (xs : List ℕ) → union xs < 2 ^ 32
+union_fits xs = folded_fits 0 xs (pow_pos 32)
 
 -- the bit of a set of one number or none
 single_bit : (b : Bool) (a t : ℕ) → bit (cond b (2 ^ a) 0) t ≡ (eqb t a && b)
@@ -74,3 +90,12 @@ module _ (p : ℕ → Bool) where
 
 pub bit_set_where : (p : ℕ → Bool) (n t : ℕ) → n ≤ 32 → bit (set_where p n) t ≡ (ltb t n && p t)
 bit_set_where p n t h = union_bit (map (single p) (range_with_len 0 n)) (singles_small p 0 n (omega arith)) t ∙ singles_bit p 0 n t ∙ from_zero n t (p t)
+
+-- any reach fits, whatever a command reaches by itself
+pub reach_fits : (n : ℕ) (own : ℕ → Command → ℕ) (chain : Chain) → reach n own chain < 2 ^ 32
+unfolding reach
+reach_fits n own stop = pow_pos 32
+reach_fits n own (run s k c alt next then_branch else_branch states) =
+    union_fits
+    (own s c ∷ reach n own alt ∷ reach n own next ∷ reach n own then_branch ∷ reach n own else_branch
+    ∷ union (map (λ t. reach n own (states t)) (range_with_len 0 n)) ∷ [])

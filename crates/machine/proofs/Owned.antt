@@ -69,6 +69,6 @@ module _ (d : Design) (sized : sizes d ≡ None) (links : linked d ≡ None) whe
   owned_fuel (suc fuel) None l w = stop_owned d
   owned_fuel (suc fuel) (Some k) l w = run_owned k w (λ o f. owned_fuel fuel o (omega arith))
 
--- the chain from a command on is owned
-pub owned : (d : Design) → sizes d ≡ None → linked d ≡ None → {k : ℕ} → k < d.head.commands → Owned d (chain_of d (Some k))
-owned d sized links {k} l = owned_fuel d sized links (suc (rank_of d (Some k))) (Some k) (omega arith) l
+-- the chain from a link on is owned
+pub owned : (d : Design) → sizes d ≡ None → linked d ≡ None → (o : Option ℕ) → Names d o → Owned d (chain_of d o)
+owned d sized links o = owned_fuel d sized links (suc (rank_of d o)) o (omega arith)

@@ -7,7 +7,7 @@ ghost use Rattle.lattice.specs.Bit.{bit};
 ghost use Rattle.members.specs.Members.{members};
 
 // The members of a set, lowest first.
-#[derive(Drop)]
+#[derive(Clone, Copy)]
 pub struct Members {
     rest: u32,
 }

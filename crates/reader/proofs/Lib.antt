@@ -4,6 +4,7 @@ pub mod Sequences
 pub mod NumberPieces
 pub mod Choosing
 pub mod Grammar
+pub mod Keys
 pub mod Answering
 pub mod Unambiguous
 pub mod Runs

@@ -2,8 +2,8 @@
 // the rest of the text, or how many bytes are left at the first one with which no such line goes on.
 ghost use Rattle.std.specs.Prelude.{◌+◌, ◌^◌, ◌≤◌};
 ghost use Rattle.reader.specs.Format.{Goes, values, labeled, LabeledFits};
-ghost use Rattle.reader.specs.Pieces.{Reads};
-ghost use Rattle.reader.specs.Texts.{cells_so_far, Due};
+ghost use Rattle.reader.specs.Pieces.{Reads, Strips};
+ghost use Rattle.reader.specs.Texts.{cells_so_far, due_key, Due};
 
 use crate::pieces::{Read, literal, number, optional_number};
 use crate::sections::{Ahead, Line, Plan, Section, Step};
@@ -19,7 +19,7 @@ pub(crate) fn due(section: Section, text: &[u8]) -> Read<'_, Step>
     requires { cells_so_far section + 2 ^ 32 ≤ 2 ^ 64 }
     ensures { Due section text.now result }
 {
-    let value = literal(text, section.key())?;
+    let value = strip_key(section, text)?;
     match section {
         Section::Levels => levels(value),
         Section::Rows(left) => row(value, left),
@@ -32,6 +32,27 @@ pub(crate) fn due(section: Section, text: &[u8]) -> Read<'_, Step>
         Section::Cells(left, head) => cell(value, left, head),
         Section::Inputs(left) => input(value, left),
         Section::End => end(value),
+    }
+}
+
+// The text behind the key of the line that is due. A line is split by its leading bytes, so that a key is compared with
+// constants.
+fn strip_key(section: Section, text: &[u8]) -> Result<&[u8], usize>
+    ensures { Strips (due_key section) text.now result }
+{
+    match (section, text) {
+        (Section::Levels, [b'l', b'e', b'v', b'e', b'l', b's', b'=', rest @ ..]) => Ok(rest),
+        (Section::Rows(_), [b'r', b'o', b'w', b'=', rest @ ..]) => Ok(rest),
+        (Section::Head, [b'p', b'o', b'r', b't', b's', b'=', rest @ ..]) => Ok(rest),
+        (Section::Ports(_), [b'w', b'i', b'd', b't', b'h', b'=', rest @ ..]) => Ok(rest),
+        (Section::Registers(_), [b'w', b'i', b'd', b't', b'h', b'=', rest @ ..]) => Ok(rest),
+        (Section::States(_), [b'p', b'a', b'r', b'e', b'n', b't', b'=', rest @ ..]) => Ok(rest),
+        (Section::Expressions(_), [b'o', b'p', b'=', rest @ ..]) => Ok(rest),
+        (Section::Commands(_), [b'd', b'o', b'=', rest @ ..]) => Ok(rest),
+        (Section::Cells(..), [b'v', b'a', b'l', b'u', b'e', b'=', rest @ ..]) => Ok(rest),
+        (Section::Inputs(_), [b'i', b'n', b'=', rest @ ..]) => Ok(rest),
+        // Another key, or none: how far the text goes with the one that is due.
+        _ => literal(text, section.key()),
     }
 }
 

@@ -69,7 +69,9 @@ pub(crate) fn number<'a>(text: &'a [u8], limit: u32, after: &[u8]) -> Read<'a, u
     Ok((value, rest))
 }
 
-// A number or `-`, and then the text `after`.
+// A number or `-`, and then the text `after`. Inlined, so that what comes after is a constant: a line of a command has five
+// such fields, and a call for each made its reading a sixth slower.
+#[inline(always)]
 pub(crate) fn optional_number<'a>(text: &'a [u8], after: &[u8]) -> Read<'a, Option<u32>>
     requires { Parting after.now }
     ensures { Reads Optional (λ o. optional o ++ after.now) text.now result }

@@ -106,7 +106,7 @@ impl Test for BadRegister<'_> {
     }
 }
 
-// Tables whose counts are within their limits.
+// Tables that have passed the rule of sizes: the arrays of the limit hold what is worked out of them.
 #[derive(Clone, Copy)]
 pub(crate) struct Counted<'a> {
     pub(crate) tables: Tables<'a>,

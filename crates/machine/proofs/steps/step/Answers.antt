@@ -1,4 +1,4 @@
-use Rattle.std.proofs.Common.{length, refl, subst}
+use Rattle.std.proofs.Common.{length, Some, refl, subst}
 use Rattle.shape.specs.Shape.{state_at}
 use Rattle.design.specs.Model.{owned}
 use Rattle.design.proofs.Kept.{formed_none, formed_parts}
@@ -20,7 +20,7 @@ returns-clause-goes_on g c none =
     let m = (g.L.Lattice.model c.args.design.now.lattice).joins in
     let kept = formed_parts d (formed_none d c.args.design.now.formed) in
     let root = root d c.args.design.now.formed (state_at d 0).first refl in
-    let own = subst (Owned d) root.chain (owned_chain d kept.0 kept.1 root.named) in
+    let own = subst (Owned d) root.chain (owned_chain d kept.0 kept.1 (Some (state_at d 0).first) root.named) in
     let before = memory_of c.args.cells.now c.args.pointers.now in
     refused_no_more m d (memory_of c.run_cycle.new.cells c.run_cycle.new.pointers)
     (rw c.run_cycle.ensures.memory

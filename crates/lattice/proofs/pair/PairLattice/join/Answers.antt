@@ -1,10 +1,10 @@
-use Rattle.std.proofs.Common.{ap, ◌∙◌}
 use Rattle.lattice.specs.Laws.{join_level}
+use Rattle.lattice.specs.PairLaws.{paired_fits}
 use Rattle.lattice.proofs.pair.PairLattice.join.Goals as goal
 
 pub whole-requires : goal.whole-requires
 whole-requires g c =
-    let pair = c.args.self.now in (
-      ap (g.L.Lattice.model pair.left).joins.level c.join.ensures ∙ join_level _ (g.met.L.Lattice.lawful pair.left).joins _ _,
-      ap (g.R.Lattice.model pair.right).joins.level c.join-2.ensures ∙ join_level _ (g.met.R.Lattice.lawful pair.right).joins _ _,
-    )
+    let e = c.in-Some.ensures in
+    let left = g.met.L.Lattice.lawful c.args.self.now.left in
+    let right = g.met.R.Lattice.lawful c.args.self.now.right in
+    (e.2, paired_fits _ _ left.joins right.joins _ _ _ _ _ e.0 e.1 c.join.ensures c.join-in-Some.ensures (join_level _ left.joins _ _) (join_level _ right.joins _ _))
